@@ -1,0 +1,2 @@
+-- Laws of the answer, by subject.
+pub mod Part

@@ -1,0 +1,3 @@
+-- Laws and theorems of the answer.
+pub mod Laws
+pub mod NoChoice

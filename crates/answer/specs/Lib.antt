@@ -1,0 +1,3 @@
+-- What an answer stands for.
+pub mod Numbers
+pub mod Part

@@ -1,0 +1,170 @@
+-- The one law: what the five operations keep is kept by every row of every list of nodes, both signs, by every part of the output and by the whole.
+-- Assumes nothing.
+use mathlib.Core.Path.{_≡_, refl, _∙_, subst}
+use mathlib.Core.Bool.{Bool, true, false, cond, _||_, or-comm}
+use mathlib.Core.List.{List, [], _∷_, _++_}
+use Prim.Native.Nat.{ℕ, zero, suc, _-_}
+use lib.Dec.{T}
+use lib.ListN.{length, getD}
+use Rattle.laws.proofs.Upward.{Each, none, more, each-at, each-upTo}
+use Rattle.formula.specs.Marks.{markOf, doubled, toA, toB}
+use Rattle.formula.specs.Nodes.{nodeIn}
+use Rattle.formula.specs.declared.mark.Mark.{Mark}
+use Rattle.formula.specs.declared.node.Kind.{Kind}
+use Rattle.formula.specs.declared.node.Kind.the-variants.{False, True, Symbol, Not, And, Or, Implies, Equivalent, Unknown}
+use Rattle.formula.specs.declared.node.Node.{Node}
+use Rattle.clausal.specs.Algebra.{Algebra, Row, unitRow, noRow, rowBy}
+use Rattle.clausal.specs.Helpers.{renamed, helperOf}
+use Rattle.clausal.specs.Origins.{Origin, option, helper}
+use Rattle.clausal.specs.Output.{Direction, Part, halvesOf, rootPart, downPart, upPart, definition, definitions, partsOf, gather, wholeOf}
+use Rattle.clausal.specs.Rows.{seen, rowFrom, rowsOf, rowOf}
+
+-- a relation that the five operations keep; units are asked for only at known variables
+pub record Keeps {C D : Type 0} (Known : ℕ → Type 0) (A : Algebra C) (B : Algebra D) (Q : C → D → Type 0) : Type 0 where
+  pub none : Q (A .none) (B .none)
+  pub empty : Q (A .empty) (B .empty)
+  pub unit : (plain : Bool) (x : ℕ) → Known x → Q (A .unit plain x) (B .unit plain x)
+  pub cat : (x y : C) (z w : D) → Q x z → Q y w → Q (A .cat x y) (B .cat z w)
+  pub join : (x y : C) (z w : D) → Q x z → Q y w → Q (A .join x y) (B .join z w)
+
+-- two rows, related at each sign that a mark has
+pub record Under {C D : Type 0} (Q : C → D → Type 0) (m : Mark) (x : Row C) (y : Row D) : Type 0 where
+  pub P : T (m .positive) → Q (x .P) (y .P)
+  pub N : T (m .negative) → Q (x .N) (y .N)
+
+-- the mark of both signs
+abbrev pub both : Mark
+both = record { positive = true; negative = true }
+
+or-left : (a b : Bool) → T a → T (a || b)
+or-left true b t = tt
+or-left false b t = absurd t
+
+or-right : (a b : Bool) → T b → T (a || b)
+or-right true b t = tt
+or-right false b t = t
+
+module _ {C D : Type 0} (Known : ℕ → Type 0) (A : Algebra C) (B : Algebra D) (Q : C → D → Type 0) (keeps : Keeps Known A B Q) where
+  pub under-unit : (m : Mark) (x : ℕ) → Known x → Under Q m (unitRow A x) (unitRow B x)
+  under-unit m x k = record { P = λ t. keeps .unit true x k; N = λ t. keeps .unit false x k }
+
+  pub under-none : (m : Mark) → Under Q m (noRow A) (noRow B)
+  under-none m = record { P = λ t. keeps .none; N = λ t. keeps .none }
+
+  from-doubled : (m : Mark) (x : Row C) (y : Row D) → T (m .positive || m .negative) → Under Q (doubled m) x y → Under Q both x y
+  from-doubled m x y t u = record { P = λ a. u .P t; N = λ a. u .N (subst T (or-comm (m .positive) (m .negative)) t) }
+
+  -- the rule of a node, at a mark: of its children only what the mark passes on is asked
+  pub under-by : (k : Kind) (n : ℕ) (m : Mark) (x y : Row C) (z w : Row D) → (k ≡ Symbol → Known n)
+      → Under Q (toA k m) x z → Under Q (toB k m) y w → Under Q m (rowBy A k n x y) (rowBy B k n z w)
+  under-by False n m x y z w known p q = record { P = λ t. keeps .empty; N = λ t. keeps .none }
+  under-by True n m x y z w known p q = record { P = λ t. keeps .none; N = λ t. keeps .empty }
+  under-by Symbol n m x y z w known p q = under-unit m n (known refl)
+  under-by Not n m x y z w known p q = record { P = p .N; N = p .P }
+  under-by And n m x y z w known p q = record {
+    P = λ t. keeps .cat _ _ _ _ (p .P t) (q .P t);
+    N = λ t. keeps .join _ _ _ _ (p .N t) (q .N t);
+  }
+  under-by Or n m x y z w known p q = record {
+    P = λ t. keeps .join _ _ _ _ (p .P t) (q .P t);
+    N = λ t. keeps .cat _ _ _ _ (p .N t) (q .N t);
+  }
+  under-by Implies n m x y z w known p q = record {
+    P = λ t. keeps .join _ _ _ _ (p .N t) (q .P t);
+    N = λ t. keeps .cat _ _ _ _ (p .P t) (q .N t);
+  }
+  under-by Equivalent n m x y z w known p q = record {
+    P = λ t. all (or-left (m .positive) (m .negative) t) .P tt;
+    N = λ t. all (or-right (m .positive) (m .negative) t) .N tt;
+  }
+    where
+      all : T (m .positive || m .negative) → Under Q both (rowBy A Equivalent n x y) (rowBy B Equivalent n z w)
+      all t =
+          let a : Under Q both x z = from-doubled m x z t p in
+          let b : Under Q both y w = from-doubled m y w t q in
+          record {
+            P = λ t. keeps .cat _ _ _ _ (keeps .join _ _ _ _ (a .N tt) (b .P tt)) (keeps .join _ _ _ _ (b .N tt) (a .P tt));
+            N = λ t. keeps .cat _ _ _ _ (keeps .join _ _ _ _ (a .N tt) (b .N tt)) (keeps .join _ _ _ _ (a .P tt) (b .P tt));
+          }
+  under-by Unknown n m x y z w known p q = under-none m
+
+-- two parts from the same place, with related contents
+pub record Parts {C D : Type 0} (Q : C → D → Type 0) (p : Part C) (q : Part D) : Type 0 where
+  pub origin : p .origin ≡ q .origin
+  pub helper : p .helper ≡ q .helper
+  pub direction : p .direction ≡ q .direction
+  pub content : Q (p .content) (q .content)
+
+each-append : {A B : Type 0} {Q : A → B → Type 0} {x y : List A} {z w : List B} → Each Q x z → Each Q y w → Each Q (x ++ y) (z ++ w)
+each-append none f = f
+each-append (more q e) f = more q (each-append e f)
+
+each-cond : {A B : Type 0} {Q : A → B → Type 0} (b : Bool) {x : List A} {z : List B} → (b ≡ true → Each Q x z) → Each Q (cond b x []) (cond b z [])
+each-cond true f = f refl
+each-cond false f = none
+
+module _ {C D : Type 0} (A : Algebra C) (B : Algebra D) (Q : C → D → Type 0) (v : ℕ) (s : List ℕ) (ns : List Node) (keeps : Keeps (Origin v s ns) A B Q) where
+  related-seen : (i : ℕ) (x : Row C) (y : Row D) → Under Q both x y → Under Q both (seen A v s i x) (seen B v s i y)
+  related-seen i x y u = go (renamed s i) refl
+    where
+      go : (b : Bool) → renamed s i ≡ b → Under Q both (cond b (unitRow A (helperOf v s i)) x) (cond b (unitRow B (helperOf v s i)) y)
+      go true e = under-unit (Origin v s ns) A B Q keeps both (helperOf v s i) (helper i e)
+      go false e = u
+
+  related-rows : Each (Under Q both) (rowsOf A v s ns) (rowsOf B v s ns)
+  related-rows = each-upTo (Under Q both) _ _ step (length ns)
+    where
+      step : (xs : List (Row C)) (ys : List (Row D)) (i : ℕ) → Each (Under Q both) xs ys → Under Q both (rowFrom A v s ns xs i) (rowFrom B v s ns ys i)
+      step xs ys i e =
+          under-by (Origin v s ns) A B Q keeps (nodeIn ns i .kind) (nodeIn ns i .a) both _ _ _ _ (option i) (child (nodeIn ns i .a)) (child (nodeIn ns i .b))
+        where
+          child : {m : Mark} (j : ℕ) → Under Q m (seen A v s j (getD xs j (noRow A))) (seen B v s j (getD ys j (noRow B)))
+          child j =
+              let u = related-seen j _ _ (each-at (Under Q both) (noRow A) (noRow B) (under-none (Origin v s ns) A B Q keeps both) e j) in
+              record { P = λ t. u .P tt; N = λ t. u .N tt }
+
+  -- every row, both signs
+  pub related-row : (i : ℕ) → Under Q both (rowOf A v s ns i) (rowOf B v s ns i)
+  related-row i = each-at (Under Q both) (noRow A) (noRow B) (under-none (Origin v s ns) A B Q keeps both) related-rows i
+
+  related-definition : (i : ℕ) → Each (Parts Q) (definition A v s ns i) (definition B v s ns i)
+  related-definition i = each-cond (renamed s i) λ e.
+      each-append
+      (each-cond (halvesOf (markOf ns i) .down) λ t. more (half (keeps .join _ _ _ _ (unit false e) (related-row i .P tt))) none)
+      (each-cond (halvesOf (markOf ns i) .up) λ t. more (half (keeps .join _ _ _ _ (related-row i .N tt) (unit true e))) none)
+    where
+      unit : (plain : Bool) → renamed s i ≡ true → Q (A .unit plain (helperOf v s i)) (B .unit plain (helperOf v s i))
+      unit plain e = keeps .unit plain (helperOf v s i) (helper i e)
+
+      half : {d : Direction} {x : C} {y : D} → Q x y → Parts Q (record { origin = i; helper = helperOf v s i; direction = d; content = x }) (record { origin = i; helper = helperOf v s i; direction = d; content = y })
+      half q = record { origin = refl; helper = refl; direction = refl; content = q }
+
+  related-definitions : (n : ℕ) → Each (Parts Q) (definitions A v s ns n) (definitions B v s ns n)
+  unfolding definitions
+  related-definitions zero = none
+  related-definitions (suc n) = each-append (related-definitions n) (related-definition n)
+
+  -- every part
+  pub related-parts : Each (Parts Q) (partsOf A v s ns) (partsOf B v s ns)
+  related-parts = more (record { origin = refl; helper = refl; direction = refl; content = related-row (length ns - 1) .P tt }) (related-definitions (length ns))
+
+  related-gather : (x : C) (y : D) {ps : List (Part C)} {qs : List (Part D)} → Q x y → Each (Parts Q) ps qs → Q (gather A x ps) (gather B y qs)
+  related-gather x y q none = q
+  related-gather x y q (more p e) = related-gather _ _ (keeps .cat _ _ _ _ q (p .content)) e
+
+  -- the whole output
+  pub related-whole : Q (wholeOf A v s ns) (wholeOf B v s ns)
+  related-whole = related-gather _ _ (keeps .none) related-parts
+
+-- a function that the five operations keep, as a relation
+pub keeps-of-map : {C D : Type 0} (Known : ℕ → Type 0) (A : Algebra C) (B : Algebra D) (h : C → D)
+    → h (A .none) ≡ B .none → h (A .empty) ≡ B .empty → ((plain : Bool) (x : ℕ) → h (A .unit plain x) ≡ B .unit plain x)
+    → ((x y : C) → h (A .cat x y) ≡ B .cat (h x) (h y)) → ((x y : C) → h (A .join x y) ≡ B .join (h x) (h y))
+    → Keeps Known A B (λ x y. h x ≡ y)
+keeps-of-map Known A B h nones empties units cats joins = record {
+  none = nones;
+  empty = empties;
+  unit = λ plain x k. units plain x;
+  cat = λ x y z w p q. cats x y ∙ (λ i. B .cat (p i) (q i));
+  join = λ x y z w p q. joins x y ∙ (λ i. B .join (p i) (q i));
+}

@@ -1,0 +1,86 @@
+-- Totals are those of the clause lists; and what the totals as reported say of them: the ceilings, and refusals 5 and 6.
+-- Assumes nothing.
+use mathlib.Core.Path.{_≡_, refl, sym, ap, _∙_, subst}
+use mathlib.Core.Logic.{_↔_}
+use mathlib.Core.List.{List, [], _∷_, _++_, map}
+use Prim.Native.Nat.{ℕ, zero, suc, _+_, _*_, _≤_, _<_}
+use native.Mathlib.Nat.{zero-mul, suc-mul}
+use native.Mathlib.Omega.{arith}
+use lib.Dec.{lit<}
+use lib.ListN.{length, length-append, length-map}
+use Rattle.laws.specs.Caps.{cap}
+use Rattle.formula.specs.declared.node.Node.{Node}
+use Rattle.clausal.specs.Algebra.{Row, joinAll, clauses}
+use Rattle.clausal.specs.Literals.{Clause}
+use Rattle.clausal.specs.Output.{outputOf}
+use Rattle.clausal.specs.Rows.{rowOf}
+use Rattle.clausal.specs.Totals.{Size, literalsIn, sizeOf, sizes, clauseCeiling, literalCeiling, shown, trueTotals, totals}
+use Rattle.clausal.proofs.Related.{Keeps, keeps-of-map, related-row, related-whole}
+use Rattle.clausal.proofs.Ceilings.{read-under, read-over, capped-whole}
+
+-- one left clause with each right clause
+abbrev joinOne : Clause → List Clause → List Clause
+joinOne c ds = map (λ d. c ++ d) ds
+
+pub length-join : (cs ds : List Clause) → length (joinAll cs ds) ≡ length cs * length ds
+length-join [] ds = sym (zero-mul (length ds))
+length-join (c ∷ cs) ds =
+    length-append (joinOne c ds) (joinAll cs ds)
+    ∙ omega (arith, length-map ds (λ d. c ++ d), length-join cs ds)
+
+literals-append : (cs ds : List Clause) → literalsIn (cs ++ ds) ≡ literalsIn cs + literalsIn ds
+literals-append [] ds = omega arith
+literals-append (c ∷ cs) ds = omega (arith, literals-append cs ds)
+
+literals-one : (c : Clause) (ds : List Clause) → literalsIn (joinOne c ds) ≡ length c * length ds + literalsIn ds
+literals-one c [] = omega arith
+literals-one c (d ∷ ds) = omega (arith, length-append c d, literals-one c ds)
+
+literals-join : (cs ds : List Clause) → literalsIn (joinAll cs ds) ≡ literalsIn cs * length ds + length cs * literalsIn ds
+literals-join [] ds = omega arith
+literals-join (c ∷ cs) ds =
+    literals-append (joinOne c ds) (joinAll cs ds)
+    ∙ omega (arith, literals-one c ds, literals-join cs ds)
+
+pub sizes-keeps : (Known : ℕ → Type 0) → Keeps Known clauses sizes (λ cs x. sizeOf cs ≡ x)
+sizes-keeps Known = keeps-of-map Known clauses sizes sizeOf refl refl (λ plain x. refl)
+    (λ cs ds. λ i. record { clauses = length-append cs ds i; literals = literals-append cs ds i })
+    (λ cs ds. λ i. record { clauses = length-join cs ds i; literals = literals-join cs ds i })
+
+module _ (v : ℕ) (s : List ℕ) (ns : List Node) where
+  -- P(n) and N(n) of every node have the true totals
+  pub size-row : (i : ℕ) → record { P = sizeOf (rowOf clauses v s ns i .P); N = sizeOf (rowOf clauses v s ns i .N) } ≡ rowOf sizes v s ns i
+  size-row i =
+      let u = related-row clauses sizes (λ cs x. sizeOf cs ≡ x) v s ns (sizes-keeps _) i in
+      λ j. record { P = u .P tt j; N = u .N tt j }
+
+  -- the output has the true totals
+  pub size-output : sizeOf (outputOf v s ns) ≡ trueTotals v s ns
+  size-output = related-whole clauses sizes (λ cs x. sizeOf cs ≡ x) v s ns (sizes-keeps _)
+
+  -- the totals as reported are the true totals, read at the ceilings
+  pub totals-shown : totals v s ns ≡ shown (trueTotals v s ns)
+  totals-shown = capped-whole clauseCeiling literalCeiling (lit< tt) (lit< tt) v s ns
+
+  pub totals-output : totals v s ns ≡ shown (sizeOf (outputOf v s ns))
+  totals-output = totals-shown ∙ ap shown (sym size-output)
+
+  -- "A clause total is read at a ceiling of 65,535 (that or more shows as 65,535)"
+  pub clauses-read : totals v s ns .clauses ≡ cap clauseCeiling (length (outputOf v s ns))
+  clauses-read = ap (λ (x : Size). x .clauses) totals-output
+
+  -- "A literal total is stated only where its clause total is below 65,535 .."
+  pub literals-stated : length (outputOf v s ns) < clauseCeiling → totals v s ns .literals ≡ cap literalCeiling (literalsIn (outputOf v s ns))
+  literals-stated h = ap (λ (x : Size). x .literals) (totals-output ∙ read-under clauseCeiling literalCeiling (lit< tt) (lit< tt) (sizeOf (outputOf v s ns)) h)
+
+  -- ".. otherwise it is reported as 1,000,000"
+  pub literals-not-stated : clauseCeiling ≤ length (outputOf v s ns) → totals v s ns .literals ≡ literalCeiling
+  literals-not-stated h = ap (λ (x : Size). x .literals) (totals-output ∙ read-over clauseCeiling literalCeiling (lit< tt) (lit< tt) (sizeOf (outputOf v s ns)) h)
+
+  -- refusal 5 is decided by the true total
+  pub clauses-refused : (clauseCeiling ≤ length (outputOf v s ns)) ↔ (totals v s ns .clauses ≡ clauseCeiling)
+  clauses-refused = (λ h. clauses-read ∙ omega arith, λ e. omega (arith, clauses-read))
+
+  -- and refusal 6, where 5 is not given
+  pub literals-refused : length (outputOf v s ns) < clauseCeiling → (literalCeiling ≤ literalsIn (outputOf v s ns)) ↔ (totals v s ns .literals ≡ literalCeiling)
+  literals-refused h = (λ g. literals-stated h ∙ omega arith, λ e. omega (arith, literals-stated h))

@@ -1,0 +1,45 @@
+-- Truth of literals, clauses and clause lists in a row of truth values; and the row in which each helper has its node's truth.
+-- Assumes nothing: these are definitions.
+use mathlib.Core.Bool.{Bool, true, false, cond, _&&_, _||_, Bool·beq}
+use mathlib.Core.List.{List, [], _∷_}
+use Prim.Native.Nat.{ℕ, zero, suc}
+use lib.Dec.{eqb}
+use lib.ListN.{length}
+use Rattle.formula.specs.Truths.{truthOf}
+use Rattle.formula.specs.declared.node.Node.{Node}
+use Rattle.clausal.specs.Algebra.{Algebra}
+use Rattle.clausal.specs.Helpers.{renamed, helperOf}
+use Rattle.clausal.specs.Literals.{Literal, Clause}
+
+-- a plain literal is true where its variable is, a negated one where it is not
+abbrev pub literalTrue : (ℕ → Bool) → Literal → Bool
+literalTrue ρ l = Bool·beq (l .plain) (ρ (l .variable))
+
+-- a clause is true where one of its literals is
+abbrev pub clauseTrue : (ℕ → Bool) → Clause → Bool
+clauseTrue ρ [] = false
+clauseTrue ρ (l ∷ c) = literalTrue ρ l || clauseTrue ρ c
+
+-- a row satisfies a clause list where all its clauses are true
+abbrev pub satisfies : (ℕ → Bool) → List Clause → Bool
+satisfies ρ [] = true
+satisfies ρ (c ∷ cs) = clauseTrue ρ c && satisfies ρ cs
+
+-- truth, collected as clause lists are
+abbrev pub truths : (ℕ → Bool) → Algebra Bool
+truths ρ = record {
+  none = true;
+  empty = false;
+  unit = λ plain v. Bool·beq plain (ρ v);
+  cat = _&&_;
+  join = _||_;
+}
+
+-- the row ρ, but that the helper of each renamed node below n takes its node's truth in ρ
+unfoldable pub withHelpers : (ℕ → Bool) → ℕ → List ℕ → List Node → ℕ → ℕ → Bool
+withHelpers ρ v s ns zero x = ρ x
+withHelpers ρ v s ns (suc n) x =
+    cond (renamed s n) (cond (eqb x (helperOf v s n)) (truthOf ρ ns n) (withHelpers ρ v s ns n x)) (withHelpers ρ v s ns n x)
+
+abbrev pub extended : (ℕ → Bool) → ℕ → List ℕ → List Node → ℕ → Bool
+extended ρ v s ns = withHelpers ρ v s ns (length ns)

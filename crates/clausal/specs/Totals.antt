@@ -1,0 +1,72 @@
+-- "Ceilings": true totals of clauses and literals, and the same read at their ceilings.
+-- Assumes nothing: these are definitions.
+use mathlib.Core.Bool.{cond}
+use mathlib.Core.List.{List, [], _∷_}
+use Prim.Native.Nat.{ℕ, _+_, _*_}
+use lib.Dec.{ltb}
+use lib.ListN.{length}
+use Rattle.laws.specs.Caps.{cap}
+use Rattle.formula.specs.declared.node.Node.{Node}
+use Rattle.clausal.specs.Algebra.{Algebra}
+use Rattle.clausal.specs.Literals.{Clause}
+use Rattle.clausal.specs.Output.{wholeOf}
+
+-- how many clauses, and how many literals in them
+pub record Size : Type 0 where
+  pub clauses : ℕ
+  pub literals : ℕ
+
+-- the totals of a clause list, counted
+abbrev pub literalsIn : List Clause → ℕ
+literalsIn [] = 0
+literalsIn (c ∷ cs) = length c + literalsIn cs
+
+abbrev pub sizeOf : List Clause → Size
+sizeOf cs = record { clauses = length cs; literals = literalsIn cs }
+
+-- true totals: in a join each side's literals are repeated for each clause of the other
+abbrev pub sizes : Algebra Size
+sizes = record {
+  none = record { clauses = 0; literals = 0 };
+  empty = record { clauses = 1; literals = 0 };
+  unit = λ plain v. record { clauses = 1; literals = 1 };
+  cat = λ x y. record { clauses = x .clauses + y .clauses; literals = x .literals + y .literals };
+  join = λ x y. record { clauses = x .clauses * y .clauses; literals = x .literals * y .clauses + x .clauses * y .literals };
+}
+
+-- the two ceilings
+abbrev pub clauseCeiling : ℕ
+clauseCeiling = 65_535
+
+abbrev pub literalCeiling : ℕ
+literalCeiling = 1_000_000
+
+-- "A literal total is stated only where its clause total is below 65,535; otherwise it is reported as 1,000,000"
+abbrev pub readAt : ℕ → ℕ → Size → Size
+readAt most full x = record {
+  clauses = cap most (x .clauses);
+  literals = cond (ltb (x .clauses) most) (cap full (x .literals)) full;
+}
+
+-- totals read at their ceilings at each step
+abbrev pub cappedAt : ℕ → ℕ → Algebra Size
+cappedAt most full = record {
+  none = sizes .none;
+  empty = sizes .empty;
+  unit = sizes .unit;
+  cat = λ x y. readAt most full (sizes .cat x y);
+  join = λ x y. readAt most full (sizes .join x y);
+}
+
+abbrev pub shown : Size → Size
+shown x = readAt clauseCeiling literalCeiling x
+
+abbrev pub capped : Algebra Size
+capped = cappedAt clauseCeiling literalCeiling
+
+-- the true totals of the output, and the totals as they are reported
+abbrev pub trueTotals : ℕ → List ℕ → List Node → Size
+trueTotals v s ns = wholeOf sizes v s ns
+
+abbrev pub totals : ℕ → List ℕ → List Node → Size
+totals v s ns = wholeOf capped v s ns

@@ -1,0 +1,2 @@
+-- Laws and theorems of the formula table.
+pub mod Laws

@@ -1,0 +1,51 @@
+-- "Polarity and renamed nodes": which nodes may be renamed; and refusal 4, the check of a lent set.
+-- Assumes nothing: these are definitions.
+use mathlib.Core.Bool.{Bool, true, false, cond, not, _&&_, _||_}
+use mathlib.Core.List.{List}
+use Prim.Native.Nat.{ℕ, suc}
+use lib.Dec.{eqb, ltb}
+use lib.ListN.{length, getD}
+use Rattle.laws.specs.First.{first}
+use Rattle.answer.specs.declared.Answer.{Answer}
+use Rattle.answer.specs.declared.Answer.the-variants.{Accepted, Set}
+use Rattle.formula.specs.Nodes.{nodeIn}
+use Rattle.formula.specs.Marks.{markOf}
+use Rattle.formula.specs.declared.mark.Mark.{Mark}
+use Rattle.formula.specs.declared.node.Kind.{Kind}
+use Rattle.formula.specs.declared.node.Kind.the-variants.{False, True, Symbol, Not, And, Or, Implies, Equivalent, Unknown}
+use Rattle.formula.specs.declared.node.Node.{Node}
+
+-- "its kind is 3 to 7"
+abbrev pub operator : Kind → Bool
+operator False = false
+operator True = false
+operator Symbol = false
+operator Not = true
+operator And = true
+operator Or = true
+operator Implies = true
+operator Equivalent = true
+operator Unknown = false
+
+-- "the root reaches it"
+abbrev pub reached : Mark → Bool
+reached m = m .positive || m .negative
+
+-- whether node i may be renamed
+abbrev pub mayRename : List Node → ℕ → Bool
+mayRename ns i = operator (nodeIn ns i .kind) && (reached (markOf ns i) && not (eqb (suc i) (length ns)))
+
+-- whether the byte of node i is right: 0, or 1 where the node may be renamed
+abbrev pub byteRight : List Node → List ℕ → ℕ → Bool
+byteRight ns s i = eqb (getD s i 0) 0 || (eqb (getD s i 0) 1 && mayRename ns i)
+
+-- the lowest node whose byte is wrong, or the node count
+abbrev pub firstWrongByte : List Node → List ℕ → ℕ
+firstWrongByte ns s = first (byteRight ns s) (length ns)
+
+-- the answer of the check of a set
+abbrev pub setChecked : List Node → List ℕ → Answer
+setChecked ns s =
+    cond (eqb (length s) (length ns))
+    (cond (ltb (firstWrongByte ns s) (length ns)) (Set (firstWrongByte ns s)) (Accepted 0 0))
+    (Set (length ns))

@@ -1,0 +1,194 @@
+// A node of the formula table: its record, decoded here and nowhere else, and the rule that a record keeps.
+ghost use mathlib.Core.Path.{_≡_};
+ghost use Prim.Native.Nat.{_+_, _*_, _<_};
+ghost use lib.ListN.{getD};
+ghost use Rattle.laws.specs.Bytes.{littleAt};
+ghost use Rattle.formula.specs.Limits.{fieldBytes, mostNodes};
+ghost use Rattle.formula.specs.Nodes.{kindOf, nodeAt};
+ghost use Rattle.formula.specs.Records.{known, useOfA, useOfB, fieldRight, faultOf};
+
+// Bytes of a field, and of a node: its kind and two fields.
+pub const FIELD_BYTES: usize = 2;
+
+pub const NODE_BYTES: usize = 1 + 2 * FIELD_BYTES;
+// Limits of a table: nodes, and the project's options.
+pub const MOST_NODES: usize = 1024;
+
+pub const MOST_OPTIONS: u32 = 32_000;
+
+pub enum Kind {
+    False,
+    True,
+    Symbol,
+    Not,
+    And,
+    Or,
+    Implies,
+    Equivalent,
+    // A kind byte over 7.
+    Unknown,
+}
+
+pub struct Node {
+    pub kind: Kind,
+    pub a: usize,
+    pub b: usize,
+}
+
+// What a field of a record holds.
+pub enum Use {
+    // Nothing: it is zero.
+    Unused,
+    // The number of a child.
+    Child,
+    // An option symbol.
+    Symbol,
+}
+
+// The byte at a place, 0 past the end.
+fn byte_at(table: &[u8], at: usize) -> usize
+    ensures { λ r. ⌜ (r ≡ getD (now (table .entry)) at 0) × (r < 256) ⌝ }
+{
+    if at < table.len() {
+        table[at] as usize
+    } else {
+        0
+    }
+}
+
+// The field at a place.
+fn field_at(table: &[u8], at: usize) -> usize
+    requires { ⌜ at < 65536 ⌝ }
+    ensures { λ r. ⌜ r ≡ littleAt fieldBytes (now (table .entry)) at ⌝ }
+{
+    let low = byte_at(table, at);
+    let high = byte_at(table, at + 1);
+    low + 256 * high
+}
+
+// The kind with a number.
+fn kind_of(number: usize) -> Kind
+    ensures { λ r. ⌜ r ≡ kindOf number ⌝ }
+{
+    if number == 0 {
+        return Kind::False;
+    }
+    if number == 1 {
+        return Kind::True;
+    }
+    if number == 2 {
+        return Kind::Symbol;
+    }
+    if number == 3 {
+        return Kind::Not;
+    }
+    if number == 4 {
+        return Kind::And;
+    }
+    if number == 5 {
+        return Kind::Or;
+    }
+    if number == 6 {
+        return Kind::Implies;
+    }
+    if number == 7 {
+        return Kind::Equivalent;
+    }
+    Kind::Unknown
+}
+
+// Node `i` of a table.
+pub fn node_at(table: &[u8], i: usize) -> Node
+    requires { ⌜ i < mostNodes ⌝ }
+    ensures { λ r. ⌜ r ≡ nodeAt (now (table .entry)) i ⌝ }
+{
+    let at = NODE_BYTES * i;
+    let kind = kind_of(byte_at(table, at));
+    let a = field_at(table, at + 1);
+    let b = field_at(table, at + 1 + FIELD_BYTES);
+    Node { kind, a, b }
+}
+
+// Whether a kind is one of the table of kinds.
+fn is_known(kind: Kind) -> bool
+    ensures { λ r. ⌜ r ≡ known kind ⌝ }
+{
+    match kind {
+        Kind::False => true,
+        Kind::True => true,
+        Kind::Symbol => true,
+        Kind::Not => true,
+        Kind::And => true,
+        Kind::Or => true,
+        Kind::Implies => true,
+        Kind::Equivalent => true,
+        Kind::Unknown => false,
+    }
+}
+
+// What field a of a kind holds.
+fn use_of_a(kind: Kind) -> Use
+    ensures { λ r. ⌜ r ≡ useOfA kind ⌝ }
+{
+    match kind {
+        Kind::False => Use::Unused,
+        Kind::True => Use::Unused,
+        Kind::Symbol => Use::Symbol,
+        Kind::Not => Use::Child,
+        Kind::And => Use::Child,
+        Kind::Or => Use::Child,
+        Kind::Implies => Use::Child,
+        Kind::Equivalent => Use::Child,
+        Kind::Unknown => Use::Unused,
+    }
+}
+
+// What field b of a kind holds.
+fn use_of_b(kind: Kind) -> Use
+    ensures { λ r. ⌜ r ≡ useOfB kind ⌝ }
+{
+    match kind {
+        Kind::False => Use::Unused,
+        Kind::True => Use::Unused,
+        Kind::Symbol => Use::Unused,
+        Kind::Not => Use::Unused,
+        Kind::And => Use::Child,
+        Kind::Or => Use::Child,
+        Kind::Implies => Use::Child,
+        Kind::Equivalent => Use::Child,
+        Kind::Unknown => Use::Unused,
+    }
+}
+
+// Whether a field of node `i` is right, for what it holds.
+fn is_right(options: u32, i: usize, held: Use, field: usize) -> bool
+    ensures { λ r. ⌜ r ≡ fieldRight options i held field ⌝ }
+{
+    match held {
+        Use::Unused => field == 0,
+        Use::Child => field < i,
+        Use::Symbol => {
+            if field == 0 {
+                return false;
+            }
+            field <= options as usize
+        }
+    }
+}
+
+// The refusal number of node `i`, 0 where its record is right.
+pub fn fault(options: u32, i: usize, node: Node) -> u32
+    ensures { λ r. ⌜ r ≡ faultOf options i node ⌝ }
+{
+    let kind = node.kind;
+    if !is_known(kind) {
+        return 3;
+    }
+    if !is_right(options, i, use_of_a(kind), node.a) {
+        return 3;
+    }
+    if !is_right(options, i, use_of_b(kind), node.b) {
+        return 3;
+    }
+    0
+}

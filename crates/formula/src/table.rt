@@ -1,0 +1,57 @@
+// The check of a formula table: refusals 1 to 3.
+ghost use mathlib.Core.Path.{_≡_};
+ghost use Prim.Native.Nat.{_*_, _≤_};
+ghost use lib.ListN.{length};
+ghost use Rattle.formula.specs.Limits.{nodeBytes, mostNodes};
+ghost use Rattle.formula.specs.Checks.{firstWrong, checked};
+use crate::node::MOST_NODES;
+use crate::node::MOST_OPTIONS;
+use crate::node::NODE_BYTES;
+use crate::node::fault;
+use crate::node::node_at;
+use answer::Answer;
+
+// The lowest node whose record is wrong, or the node count.
+fn first_wrong(table: &[u8], options: u32) -> usize
+    requires { ⌜ length (now table) ≤ nodeBytes * mostNodes ⌝ }
+    ensures { λ r. ⌜ r ≡ firstWrong (now (table .entry)) options ⌝ }
+{
+    let count = table.len() / NODE_BYTES;
+    let mut i = 0;
+    while i < count {
+        if fault(options, i, node_at(table, i)) != 0 {
+            return i;
+        }
+        i += 1;
+    }
+    i
+}
+
+// Checks a table, for a project of `options` options.
+pub fn check(table: &[u8], options: u32) -> Answer
+    ensures { λ r. ⌜ r ≡ checked (now (table .entry)) options ⌝ }
+{
+    if table.len() == 0 {
+        return Answer::TableLength;
+    }
+    if table.len() % NODE_BYTES != 0 {
+        return Answer::TableLength;
+    }
+    if table.len() > NODE_BYTES * MOST_NODES {
+        return Answer::TableLength;
+    }
+    if options > MOST_OPTIONS {
+        return Answer::Options;
+    }
+    let node = first_wrong(table, options);
+    if node < table.len() / NODE_BYTES {
+        return Answer::Record {
+            number: fault(options, node, node_at(table, node)),
+            node: node as u32,
+        };
+    }
+    Answer::Accepted {
+        first: 0,
+        second: 0,
+    }
+}

@@ -1,0 +1,1 @@
+// No code: this crate has general definitions (specs/) and their laws (proofs/).

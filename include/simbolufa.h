@@ -1,0 +1,136 @@
+/*
+ * Simbolufa: checks a build guard's formula table, for a C or C++ host.
+ *
+ * The node table
+ *
+ *   A node is five bytes: its kind, then a, then b, each of the two a 16-bit little-endian number.
+ *   Nodes are numbered from 0. The last node is the root. A child's number is below its parent's,
+ *   and a node may be the child of several nodes. V is the caller's option count.
+ *
+ *     kind   meaning              a         b
+ *     0      false                0         0
+ *     1      true                 0         0
+ *     2      an option symbol     1 to V    0
+ *     3      not a                child     0
+ *     4      a and b              child     child
+ *     5      a or b               child     child
+ *     6      a implies b          child     child
+ *     7      a equivalent to b    child     child
+ *
+ *   A table has 1 to 1,024 nodes. V is 0 to 32,000. An option need not occur. Nodes that the root
+ *   does not reach keep to the same rules.
+ *
+ * Every call
+ *
+ *   A buffer is lent as a pointer and its length in bytes. Buffers lent to one call must not overlap.
+ *   A null pointer with length 0 is fine, and so is any alignment. No pointer is kept after the call.
+ *   A call allocates nothing, keeps no state, uses little stack and always ends. It may run in
+ *   several threads at once.
+ *
+ *   A call checks its own input. It returns 0 or the number of a refusal. A refusal changes no lent
+ *   byte outside the answer part.
+ *
+ * The answer part
+ *
+ *   It is 16 bytes: four 32-bit little-endian numbers. They are the number that the call returns, the
+ *   place, and two values of the call. A refusal writes it too, with both values 0. Only refusal 11
+ *   writes nothing.
+ */
+#ifndef SIMBOLUFA_H
+#define SIMBOLUFA_H
+
+#include <stddef.h>
+#include <stdint.h>
+
+#ifdef __cplusplus
+extern "C" {
+#endif
+
+/*
+ * What a call returns. The checks go in this order, as far as a call has them:
+ * 11, 1, 2, 3, 4, 5, 6, 8, 9, 7. The place is 0 unless it is given here. A place over 4,294,967,295
+ * shows as that number.
+ */
+enum simbolufa_number {
+    /* Nothing is wrong. */
+    SIMBOLUFA_ACCEPTED = 0,
+    /* The table is empty, is not a multiple of 5 bytes, or is over 5,120 bytes. */
+    SIMBOLUFA_REFUSED_TABLE_LENGTH = 1,
+    /* V is over 32,000. */
+    SIMBOLUFA_REFUSED_OPTIONS = 2,
+    /* A node's record breaks the rules of the node table. Place: the lowest such node. */
+    SIMBOLUFA_REFUSED_RECORD = 3,
+    /*
+     * The set's length is not the node count. Place: the node count.
+     * Or a byte of the set is not 0 or 1, or is 1 on a node that may not be renamed. Place: the lowest
+     * such node.
+     */
+    SIMBOLUFA_REFUSED_SET = 4,
+    /* The conversion has 65,535 clauses or more. */
+    SIMBOLUFA_REFUSED_CLAUSES = 5,
+    /* The conversion has 1,000,000 literals or more. */
+    SIMBOLUFA_REFUSED_LITERALS = 6,
+    /* The output needs more bytes than the lent buffer has. */
+    SIMBOLUFA_REFUSED_ROOM = 7,
+    /*
+     * The DIMACS text is not accepted. Place: the length of the longest beginning of it that also
+     * begins some accepted text.
+     */
+    SIMBOLUFA_REFUSED_TEXT = 8,
+    /*
+     * The clause bytes to write are not a multiple of 4 bytes, their last clause is not closed, a
+     * magnitude is over the declared variables, those are over 40,000, or there are over 65,534
+     * clauses or over 999,999 literals.
+     */
+    SIMBOLUFA_REFUSED_CLAUSE_BYTES = 9,
+    /* A line of the node file is wrong or missing. Only the program gives it. Place: the line, from 1. */
+    SIMBOLUFA_REFUSED_NODE_FILE = 10,
+    /* The answer part is not 16 bytes. Nothing is written. */
+    SIMBOLUFA_REFUSED_ANSWER_LENGTH = 11
+};
+
+/* The length of the answer part. */
+enum { SIMBOLUFA_ANSWER_LENGTH = 16 };
+
+/*
+ * Checks a node table. `options` is V.
+ *
+ * Returns 0 where every node keeps to the rules, else 1, 2, 3 or 11. Both values of the answer part
+ * are 0.
+ */
+uint32_t simbolufa_check(const uint8_t *table, size_t table_len, uint32_t options, uint8_t *answer,
+                         size_t answer_len);
+
+/* The four numbers of an answer part. */
+struct simbolufa_answer {
+    /* What the call returned. */
+    uint32_t number;
+    uint32_t place;
+    /* Variables or picks; 0 for a check. */
+    uint32_t first;
+    /* Clauses or a total; 0 for a check. */
+    uint32_t second;
+};
+
+/* Reads a 32-bit little-endian number from four bytes. */
+static inline uint32_t simbolufa_read_number(const uint8_t *bytes)
+{
+    return (uint32_t)bytes[0] | (uint32_t)bytes[1] << 8 | (uint32_t)bytes[2] << 16 | (uint32_t)bytes[3] << 24;
+}
+
+/* Reads the 16 bytes of an answer part. */
+static inline struct simbolufa_answer simbolufa_read_answer(const uint8_t *answer)
+{
+    struct simbolufa_answer read;
+    read.number = simbolufa_read_number(answer);
+    read.place = simbolufa_read_number(answer + 4);
+    read.first = simbolufa_read_number(answer + 8);
+    read.second = simbolufa_read_number(answer + 12);
+    return read;
+}
+
+#ifdef __cplusplus
+}
+#endif
+
+#endif

@@ -1,0 +1,230 @@
+//! Right tables, and tables damaged in one field.
+
+use crate::random::Random;
+
+pub const MOST_NODES: usize = 1_024;
+
+#[derive(Clone, Copy)]
+pub struct Node {
+    pub kind: u8,
+    pub a: u16,
+    pub b: u16,
+}
+
+/// What a field of a node holds.
+#[derive(Clone, Copy, PartialEq)]
+enum Field {
+    Unused,
+    Symbol,
+    Child,
+}
+
+impl Node {
+    fn fields(self) -> [Field; 2] {
+        match self.kind {
+            2 => [Field::Symbol, Field::Unused],
+            3 => [Field::Child, Field::Unused],
+            4..=7 => [Field::Child, Field::Child],
+            _ => [Field::Unused, Field::Unused],
+        }
+    }
+
+    pub fn children(self) -> Vec<usize> {
+        let fields = self.fields().into_iter().zip([self.a, self.b]);
+        fields
+            .filter(|(field, _)| *field == Field::Child)
+            .map(|(_, value)| usize::from(value))
+            .collect()
+    }
+}
+
+pub fn bytes(nodes: &[Node]) -> Vec<u8> {
+    let record = |node: &Node| {
+        let ([a, a_high], [b, b_high]) = (node.a.to_le_bytes(), node.b.to_le_bytes());
+        [node.kind, a, a_high, b, b_high]
+    };
+    nodes.iter().flat_map(record).collect()
+}
+
+/// A node count. Most guards are small.
+pub fn node_count(random: &mut Random) -> usize {
+    match random.below(100) {
+        0 => MOST_NODES,
+        1..=4 => random.between(1, MOST_NODES),
+        5..=14 => random.between(1, 4),
+        _ => random.between(1, 60),
+    }
+}
+
+/// How far below its parent a child is drawn.
+#[derive(Clone, Copy)]
+enum Shape {
+    /// Any node below: much is shared, and much is not reached.
+    Wide,
+    /// One of the four nodes below: deep, and nearly all is reached.
+    Deep,
+    /// The node before, or any node below.
+    Mixed,
+}
+
+fn child(random: &mut Random, shape: Shape, number: usize) -> u16 {
+    let lowest = match shape {
+        Shape::Wide => 0,
+        Shape::Deep => number.saturating_sub(4),
+        Shape::Mixed => random.pick(&[0, number - 1]),
+    };
+    random.between(lowest, number - 1) as u16
+}
+
+/// A right table.
+pub fn right(random: &mut Random, options: u32, count: usize) -> Vec<Node> {
+    let shape = random.pick(&[Shape::Wide, Shape::Deep, Shape::Mixed]);
+    let leaves = random.pick(&[10, 35, 50]);
+    (0..count)
+        .map(|number| right_node(random, shape, leaves, options, number))
+        .collect()
+}
+
+/// A right node: a leaf in `leaves` of a hundred draws.
+fn right_node(
+    random: &mut Random,
+    shape: Shape,
+    leaves: usize,
+    options: u32,
+    number: usize,
+) -> Node {
+    if number > 0 && !random.percent(leaves) {
+        let (kind, a) = (random.between(3, 7) as u8, child(random, shape, number));
+        let b = match kind {
+            3 => 0,
+            _ if random.percent(10) => a,
+            _ => child(random, shape, number),
+        };
+        return Node { kind, a, b };
+    }
+    if options == 0 || random.percent(15) {
+        return Node {
+            kind: random.between(0, 1) as u8,
+            a: 0,
+            b: 0,
+        };
+    }
+    let last = options as usize;
+    let symbol = random.between(1, last);
+    Node {
+        kind: 2,
+        a: random.pick(&[symbol, symbol, 1, last]) as u16,
+        b: 0,
+    }
+}
+
+/// Changes one field of one node. Another known kind may be right; all else is wrong.
+pub fn damage(random: &mut Random, options: u32, nodes: &mut [Node]) {
+    let number = random.below(nodes.len());
+    let node = &mut nodes[number];
+    let [a, b] = node.fields();
+    let unknown = random.between(8, 255) as u8;
+    let turned = random.between(1, 7) as u8;
+    match random.below(6) {
+        0 => node.kind = random.pick(&[8, unknown, 255]),
+        1 => node.kind = (node.kind % 8 + turned) % 8,
+        2 | 3 => node.a = wrong_value(random, a, options, number),
+        _ => node.b = wrong_value(random, b, options, number),
+    }
+}
+
+/// A value that a field of node `number` may not have.
+fn wrong_value(random: &mut Random, field: Field, options: u32, number: usize) -> u16 {
+    let most = usize::from(u16::MAX);
+    let past = options as usize + 1;
+    let wrong = match field {
+        Field::Unused => [1, 256, random.between(1, most), most],
+        Field::Symbol => [0, 0, past, random.between(past, most)],
+        Field::Child => {
+            // Its low byte may be that of a right child.
+            let high = random.between(0, number) + MOST_NODES;
+            [number, number + 1, high, random.between(number, most)]
+        }
+    };
+    random.pick(&wrong) as u16
+}
+
+#[cfg(test)]
+mod tests {
+    use super::*;
+
+    fn is_right(node: Node, number: usize, options: u32) -> bool {
+        let field_is_right = |(field, value): (Field, u16)| match field {
+            Field::Unused => value == 0,
+            Field::Symbol => value != 0 && u32::from(value) <= options,
+            Field::Child => usize::from(value) < number,
+        };
+        node.kind <= 7
+            && node
+                .fields()
+                .into_iter()
+                .zip([node.a, node.b])
+                .all(field_is_right)
+    }
+
+    fn wrong_nodes(nodes: &[Node], options: u32) -> usize {
+        (0..nodes.len())
+            .filter(|&number| !is_right(nodes[number], number, options))
+            .count()
+    }
+
+    #[test]
+    fn right_tables_are_right() {
+        let mut random = Random::new(1);
+        for options in [0, 1, 7, 32_000] {
+            for count in [1, 2, 3, 60, 1_024] {
+                let nodes = right(&mut random, options, count);
+                assert_eq!((nodes.len(), wrong_nodes(&nodes, options)), (count, 0));
+            }
+        }
+    }
+
+    #[test]
+    fn a_wrong_value_makes_its_node_wrong() {
+        let mut random = Random::new(2);
+        for turn in 0..2_000 {
+            let options = random.pick(&[0, 5, 32_000]);
+            let mut nodes = right(&mut random, options, 1 + turn % 40);
+            let number = random.below(nodes.len());
+            let [a, _] = nodes[number].fields();
+            nodes[number].a = wrong_value(&mut random, a, options, number);
+            assert_eq!(wrong_nodes(&nodes, options), 1);
+        }
+    }
+
+    #[test]
+    fn damage_changes_one_field() {
+        let mut random = Random::new(3);
+        for _ in 0..500 {
+            let before = right(&mut random, 9, 30);
+            let mut after = before.clone();
+            damage(&mut random, 9, &mut after);
+            let fields = |nodes: &[Node]| -> Vec<u16> {
+                nodes
+                    .iter()
+                    .flat_map(|node| [u16::from(node.kind), node.a, node.b])
+                    .collect()
+            };
+            let changed = fields(&before)
+                .into_iter()
+                .zip(fields(&after))
+                .filter(|(old, new)| old != new);
+            assert_eq!(changed.count(), 1);
+        }
+    }
+
+    #[test]
+    fn every_kind_and_every_size_class_is_drawn() {
+        let mut random = Random::new(4);
+        let nodes = right(&mut random, 5, 1_024);
+        assert!((0..=7).all(|kind| nodes.iter().any(|node| node.kind == kind)));
+        let counts: Vec<usize> = (0..2_000).map(|_| node_count(&mut random)).collect();
+        assert!(counts.contains(&1) && counts.contains(&60) && counts.contains(&MOST_NODES));
+        assert!(counts.iter().all(|count| (1..=MOST_NODES).contains(count)));
+    }
+}
