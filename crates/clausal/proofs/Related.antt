@@ -1,18 +1,20 @@
 -- The one law: what the five operations keep is kept by every row of every list of nodes, both signs, by every part of the output and by the whole.
 -- Assumes nothing.
-use mathlib.Core.Path.{_≡_, refl, _∙_, subst}
-use mathlib.Core.Bool.{Bool, true, false, cond, _||_, or-comm}
+use mathlib.Core.Path.{_≡_, refl, _∙_}
+use mathlib.Core.Bool.{Bool, true, false, cond}
 use mathlib.Core.List.{List, [], _∷_, _++_}
 use Prim.Native.Nat.{ℕ, zero, suc, _-_}
 use lib.Dec.{T}
 use lib.ListN.{length, getD}
 use Rattle.laws.proofs.Upward.{Each, none, more, each-at, each-upTo}
-use Rattle.formula.specs.Marks.{markOf, doubled, toA, toB}
+use Rattle.formula.specs.Marks.{markOf, toA, toB}
 use Rattle.formula.specs.Nodes.{nodeIn}
+use Rattle.formula.specs.Paths.{has}
 use Rattle.formula.specs.declared.mark.Mark.{Mark}
 use Rattle.formula.specs.declared.node.Kind.{Kind}
 use Rattle.formula.specs.declared.node.Kind.the-variants.{False, True, Symbol, Not, And, Or, Implies, Equivalent, Unknown}
 use Rattle.formula.specs.declared.node.Node.{Node}
+use Rattle.formula.proofs.Laws.Marks.{doubled-has}
 use Rattle.clausal.specs.Algebra.{Algebra, Row, unitRow, noRow, rowBy}
 use Rattle.clausal.specs.Helpers.{renamed, helperOf}
 use Rattle.clausal.specs.Origins.{Origin, option, helper}
@@ -36,14 +38,6 @@ pub record Under {C D : Type 0} (Q : C → D → Type 0) (m : Mark) (x : Row C) 
 abbrev pub both : Mark
 both = record { positive = true; negative = true }
 
-or-left : (a b : Bool) → T a → T (a || b)
-or-left true b t = tt
-or-left false b t = absurd t
-
-or-right : (a b : Bool) → T b → T (a || b)
-or-right true b t = tt
-or-right false b t = t
-
 module _ {C D : Type 0} (Known : ℕ → Type 0) (A : Algebra C) (B : Algebra D) (Q : C → D → Type 0) (keeps : Keeps Known A B Q) where
   pub under-unit : (m : Mark) (x : ℕ) → Known x → Under Q m (unitRow A x) (unitRow B x)
   under-unit m x k = record { P = λ t. keeps .unit true x k; N = λ t. keeps .unit false x k }
@@ -51,41 +45,35 @@ module _ {C D : Type 0} (Known : ℕ → Type 0) (A : Algebra C) (B : Algebra D)
   pub under-none : (m : Mark) → Under Q m (noRow A) (noRow B)
   under-none m = record { P = λ t. keeps .none; N = λ t. keeps .none }
 
-  from-doubled : (m : Mark) (x : Row C) (y : Row D) → T (m .positive || m .negative) → Under Q (doubled m) x y → Under Q both x y
-  from-doubled m x y t u = record { P = λ a. u .P t; N = λ a. u .N (subst T (or-comm (m .positive) (m .negative)) t) }
-
   -- the rule of a node, at a mark: of its children only what the mark passes on is asked
   pub under-by : (k : Kind) (n : ℕ) (m : Mark) (x y : Row C) (z w : Row D) → (k ≡ Symbol → Known n)
       → Under Q (toA k m) x z → Under Q (toB k m) y w → Under Q m (rowBy A k n x y) (rowBy B k n z w)
-  under-by False n m x y z w known p q = record { P = λ t. keeps .empty; N = λ t. keeps .none }
-  under-by True n m x y z w known p q = record { P = λ t. keeps .none; N = λ t. keeps .empty }
+  under-by False n m x y z w known p q = record { P = λ t. search (keeps .none, keeps .empty); N = λ t. search (keeps .none, keeps .empty) }
+  under-by True n m x y z w known p q = record { P = λ t. search (keeps .none, keeps .empty); N = λ t. search (keeps .none, keeps .empty) }
   under-by Symbol n m x y z w known p q = under-unit m n (known refl)
-  under-by Not n m x y z w known p q = record { P = p .N; N = p .P }
+  under-by Not n m x y z w known p q = record { P = λ t. search (p .P, p .N); N = λ t. search (p .P, p .N) }
   under-by And n m x y z w known p q = record {
-    P = λ t. keeps .cat _ _ _ _ (p .P t) (q .P t);
-    N = λ t. keeps .join _ _ _ _ (p .N t) (q .N t);
+    P = λ t. search (keeps .cat, keeps .join, p .P, p .N, q .P, q .N);
+    N = λ t. search (keeps .cat, keeps .join, p .P, p .N, q .P, q .N);
   }
   under-by Or n m x y z w known p q = record {
-    P = λ t. keeps .join _ _ _ _ (p .P t) (q .P t);
-    N = λ t. keeps .cat _ _ _ _ (p .N t) (q .N t);
+    P = λ t. search (keeps .cat, keeps .join, p .P, p .N, q .P, q .N);
+    N = λ t. search (keeps .cat, keeps .join, p .P, p .N, q .P, q .N);
   }
   under-by Implies n m x y z w known p q = record {
-    P = λ t. keeps .join _ _ _ _ (p .N t) (q .P t);
-    N = λ t. keeps .cat _ _ _ _ (p .P t) (q .N t);
+    P = λ t. search (keeps .cat, keeps .join, p .P, p .N, q .P, q .N);
+    N = λ t. search (keeps .cat, keeps .join, p .P, p .N, q .P, q .N);
   }
-  under-by Equivalent n m x y z w known p q = record {
-    P = λ t. all (or-left (m .positive) (m .negative) t) .P tt;
-    N = λ t. all (or-right (m .positive) (m .negative) t) .N tt;
-  }
+  under-by Equivalent n m x y z w known p q = record { P = λ t. all true t .P tt; N = λ t. all false t .N tt }
     where
-      all : T (m .positive || m .negative) → Under Q both (rowBy A Equivalent n x y) (rowBy B Equivalent n z w)
-      all t =
-          let a : Under Q both x z = from-doubled m x z t p in
-          let b : Under Q both y w = from-doubled m y w t q in
-          record {
-            P = λ t. keeps .cat _ _ _ _ (keeps .join _ _ _ _ (a .N tt) (b .P tt)) (keeps .join _ _ _ _ (b .N tt) (a .P tt));
-            N = λ t. keeps .cat _ _ _ _ (keeps .join _ _ _ _ (a .N tt) (b .N tt)) (keeps .join _ _ _ _ (a .P tt) (b .P tt));
-          }
+      -- a mark of any sign is passed on as both
+      all : (sign : Bool) → T (has sign m) → Under Q both (rowBy A Equivalent n x y) (rowBy B Equivalent n z w)
+      all sign t =
+          let xP = p .P (doubled-has m sign true t) in
+          let xN = p .N (doubled-has m sign false t) in
+          let yP = q .P (doubled-has m sign true t) in
+          let yN = q .N (doubled-has m sign false t) in
+          record { P = λ u. search (keeps .cat, keeps .join); N = λ u. search (keeps .cat, keeps .join) }
   under-by Unknown n m x y z w known p q = under-none m
 
 -- two parts from the same place, with related contents

@@ -8,3 +8,4 @@ pub mod Totals
 pub mod Satisfies
 pub mod Choosing
 pub mod Origins
+pub mod Places

@@ -1,5 +1,7 @@
 -- Laws of the formula table, by subject.
 pub mod Held
+pub mod Marks
 pub mod Passing
+pub mod Polarity
 pub mod Tables
 pub mod WellFormed

@@ -4,7 +4,7 @@ ghost use Prim.Native.Nat.{_*_, _≤_};
 ghost use lib.ListN.{length};
 ghost use Rattle.formula.specs.Limits.{nodeBytes, mostNodes};
 ghost use Rattle.formula.specs.Nodes.{nodesOf};
-ghost use Rattle.formula.specs.Marks.{unmarked, joined, turned, toA, toB, byteOf, markBy, heldAt, heldMore, heldPassed, held, marksOf};
+ghost use Rattle.formula.specs.Marks.{unmarked, joined, turned, doubled, toA, toB, byteOf, markBy, heldAt, heldMore, heldPassed, held, marksOf};
 use crate::node::Kind;
 use crate::node::MOST_NODES;
 use crate::node::NODE_BYTES;
@@ -46,19 +46,28 @@ fn turn(m: Mark) -> Mark
     }
 }
 
+// Both polarities, where the mark has any.
+fn double(m: Mark) -> Mark
+    ensures { λ r. ⌜ r ≡ doubled m ⌝ }
+{
+    let turned = turn(m);
+    join(m, turned)
+}
+
 // What a node of a kind gives to its child a.
 fn to_a(kind: Kind, m: Mark) -> Mark
     ensures { λ r. ⌜ r ≡ toA kind m ⌝ }
 {
+    let turned = turn(m);
     match kind {
         Kind::False => no_mark(),
         Kind::True => no_mark(),
         Kind::Symbol => no_mark(),
-        Kind::Not => turn(m),
+        Kind::Not => turned,
         Kind::And => m,
         Kind::Or => m,
-        Kind::Implies => turn(m),
-        Kind::Equivalent => join(m, turn(m)),
+        Kind::Implies => turned,
+        Kind::Equivalent => double(m),
         Kind::Unknown => no_mark(),
     }
 }
@@ -75,7 +84,7 @@ fn to_b(kind: Kind, m: Mark) -> Mark
         Kind::And => m,
         Kind::Or => m,
         Kind::Implies => m,
-        Kind::Equivalent => join(m, turn(m)),
+        Kind::Equivalent => double(m),
         Kind::Unknown => no_mark(),
     }
 }

@@ -1,12 +1,22 @@
--- The answer part is written by four stores of four bytes.
+-- The answer part: what is looked at first, and how it is written, by four stores of four bytes.
 -- Assumes nothing.
 use mathlib.Core.Path.{_≡_, refl, sym, ap, _∙_}
 use mathlib.Core.List.{List, _++_, append-assoc}
 use Prim.Native.Nat.{ℕ}
 use native.Mathlib.Omega.{arith}
 use lib.ListN.{length, length-append}
+use borrow.Author.Tests.{eq-eqb, ne-eqb}
 use Rattle.laws.specs.Splices.{splice}
 use Rattle.laws.proofs.Splices.{splice-splice, splice-all}
+use Rattle.answer.specs.Part.{given, called}
+use Rattle.answer.specs.declared.Answer.{Answer}
+
+-- a part that is not 16 bytes long is refusal 11 whatever the answer, and is not written
+pub called-wrong : (part : List ℕ) (a : Answer) → (length part ≡ 16 → ⊥) → record { result = 11; part = part } ≡ called part a
+called-wrong part a h = rw (ne-eqb (length part) 16 h)
+
+pub called-right : (part : List ℕ) (a : Answer) → length part ≡ 16 → given a ≡ called part a
+called-right part a h = rw (eq-eqb (length part) 16 h)
 
 -- four runs of four, one behind the other, are the whole part
 pub four-runs : (l₀ l₁ l₂ l₃ l₄ a b c d : List ℕ) → length a ≡ 4 → length b ≡ 4 → length c ≡ 4 → length d ≡ 4 → length l₀ ≡ 16

@@ -1,15 +1,26 @@
--- What an accepted table gives: its nodes are well formed.
+-- What an accepted table gives: every record is right, so children are below their parents and symbols are options.
 -- Assumes nothing.
-use mathlib.Core.Path.{_≡_}
-use mathlib.Core.List.{List}
-use Prim.Native.Nat.{ℕ, _<_, _≤_}
-use lib.ListN.{length}
-use Rattle.formula.specs.Nodes.{nodeIn}
-use Rattle.formula.specs.Records.{useOfA, useOfB}
+use mathlib.Core.Path.{_≡_, refl, sym, ap, _∙_, subst, subst⁻¹}
+use mathlib.Core.Bool.{Bool, true, false, cond, not, _||_}
+use mathlib.Core.List.{List, []}
+use Prim.Native.Nat.{ℕ, _+_, _*_, _<_, _≤_, _/_, _%_}
+use native.Mathlib.Omega.{arith}
+use lib.Dec.{eqb, leb, ltb}
+use lib.ListN.{length, List·getD-eq-default}
+use borrow.Author.Tests.{eqb-true, eqb-false, ltb-true, ltb-false, leb-true, not-false}
+use Rattle.answer.specs.declared.Answer.{Answer}
+use Rattle.answer.specs.declared.Answer.the-variants.{Accepted, TableLength, Options, Record}
+use Rattle.laws.proofs.First.{first-before}
+use Rattle.formula.specs.Limits.{nodeBytes, mostNodes, mostOptions}
+use Rattle.formula.specs.Nodes.{nodeAt, nodeCount, nodesOf, nodeIn}
+use Rattle.formula.specs.Records.{known, useOfA, useOfB, fieldRight, faultOf}
+use Rattle.formula.specs.Checks.{lengthWrong, recordRight, firstWrong, checked}
+use Rattle.formula.specs.declared.node.Kind.{Kind}
 use Rattle.formula.specs.declared.node.Kind.the-variants.{Symbol}
 use Rattle.formula.specs.declared.node.Node.{Node}
 use Rattle.formula.specs.declared.node.Use.{Use}
 use Rattle.formula.specs.declared.node.Use.the-variants as held
+use Rattle.formula.proofs.Laws.Tables.{length-nodesOf, nodeIn-nodesOf}
 
 -- a field that holds a child is below i
 abbrev pub FieldBelow : ℕ → Use → ℕ → Type 0
@@ -25,3 +36,101 @@ pub record WellFormed (v : ℕ) (ns : List Node) : Type 0 where
   pub some : 0 < length ns
   pub below : (i : ℕ) → Below i (nodeIn ns i)
   pub symbols : (i : ℕ) → nodeIn ns i .kind ≡ Symbol → (0 < nodeIn ns i .a) × (nodeIn ns i .a ≤ v)
+
+-- a test that did not refuse
+passed : (b : Bool) (refusal rest : Answer) (x y : ℕ) → (refusal ≡ Accepted x y → ⊥) → cond b refusal rest ≡ Accepted x y → (b ≡ false) × (rest ≡ Accepted x y)
+passed true refusal rest x y n e = absurd (n e)
+passed false refusal rest x y n e = (refl, e)
+
+pub record Accepts (t : List ℕ) (v : ℕ) : Type 0 where
+  pub lengths : lengthWrong (length t) ≡ false
+  pub options : v ≤ mostOptions
+  pub records : (i : ℕ) → i < nodeCount t → faultOf v i (nodeAt t i) ≡ 0
+
+pub accepts : (t : List ℕ) (v x y : ℕ) → checked t v ≡ Accepted x y → Accepts t v
+accepts t v x y e =
+    let e₁ = passed (lengthWrong (length t)) TableLength _ x y (λ q. let z : _≡_ {A = ℕ} 0 1 = cc in omega arith) e in
+    let e₂ = passed (ltb mostOptions v) Options _ x y (λ q. let z : _≡_ {A = ℕ} 0 1 = cc in omega arith) (e₁ .1) in
+    let e₃ = passed (ltb (firstWrong t v) (nodeCount t)) _ _ x y (λ q. let z : _≡_ {A = ℕ} 0 1 = cc in omega arith) (e₂ .1) in
+    let all : nodeCount t ≤ firstWrong t v = ltb-false (firstWrong t v) (nodeCount t) (e₃ .0) in
+    record {
+      lengths = e₁ .0;
+      options = ltb-false mostOptions v (e₂ .0);
+      records = λ i h. eqb-true (faultOf v i (nodeAt t i)) 0 (first-before (recordRight t v) (nodeCount t) i (omega arith));
+    }
+
+-- a right length: some nodes, and no more than a table may have
+none-of : (a b : Bool) → (a || b) ≡ false → (a ≡ false) × (b ≡ false)
+none-of true b e = let z : _≡_ {A = ℕ} 0 1 = cc in absurd (omega arith)
+none-of false b e = (refl, e)
+
+pub record RightLength (n : ℕ) : Type 0 where
+  pub some : 0 < n / nodeBytes
+  pub even : n % nodeBytes ≡ 0
+  pub most : n ≤ nodeBytes * mostNodes
+
+pub right-length : (n : ℕ) → lengthWrong n ≡ false → RightLength n
+right-length n e =
+    let empty = none-of (eqb n 0) (not (eqb (n % nodeBytes) 0) || ltb (nodeBytes * mostNodes) n) e in
+    let uneven = none-of (not (eqb (n % nodeBytes) 0)) (ltb (nodeBytes * mostNodes) n) (empty .1) in
+    let z = eqb-false n 0 (empty .0) in
+    let even : n % nodeBytes ≡ 0 = eqb-true (n % nodeBytes) 0 (not-false (eqb (n % nodeBytes) 0) (uneven .0)) in
+    record { some = omega arith; even = even; most = ltb-false (nodeBytes * mostNodes) n (uneven .1) }
+
+-- what a right record says
+right-record : (v i : ℕ) (n : Node) → faultOf v i n ≡ 0 → (fieldRight v i (useOfA (n .kind)) (n .a) ≡ true) × (fieldRight v i (useOfB (n .kind)) (n .b) ≡ true)
+right-record v i n e = go (known (n .kind)) (fieldRight v i (useOfA (n .kind)) (n .a)) (fieldRight v i (useOfB (n .kind)) (n .b)) e
+  where
+    go : (k a b : Bool) → _≡_ {A = ℕ} (cond k (cond a (cond b 0 3) 3) 3) 0 → (a ≡ true) × (b ≡ true)
+    go true true true q = (refl, refl)
+    go true true false q = absurd (omega arith)
+    go true false b q = absurd (omega arith)
+    go false a b q = absurd (omega arith)
+
+field-below : (v i : ℕ) (u : Use) (x : ℕ) → fieldRight v i u x ≡ true → FieldBelow i u x
+field-below v i held.Unused x e = tt
+field-below v i held.Child x e = ltb-true x i e
+field-below v i held.Symbol x e = tt
+
+symbol-right : (v i x : ℕ) → fieldRight v i held.Symbol x ≡ true → (0 < x) × (x ≤ v)
+symbol-right v i x e = go (eqb x 0) refl e
+  where
+    go : (b : Bool) → eqb x 0 ≡ b → cond b false (leb x v) ≡ true → (0 < x) × (x ≤ v)
+    go true p q = let z : _≡_ {A = ℕ} 0 1 = cc in absurd (omega arith)
+    go false p q = let n = eqb-false x 0 p in (omega arith, leb-true x v q)
+
+-- past the last node stands false, which has no fields
+past : (ns : List Node) (i : ℕ) → length ns ≤ i → nodeIn ns i ≡ nodeIn [] i
+past ns i h = List·getD-eq-default ns (nodeIn [] i) h
+
+pub accepted-well-formed : (t : List ℕ) (v x y : ℕ) → checked t v ≡ Accepted x y → WellFormed v (nodesOf t)
+accepted-well-formed t v x y e = record {
+  some = omega (arith, length-nodesOf t, right-length (length t) (a .lengths) .some);
+  below = λ i. at i (ltb i (nodeCount t)) refl;
+  symbols = λ i q. symbol i q (ltb i (nodeCount t)) refl;
+}
+  where
+    a : Accepts t v
+    a = accepts t v x y e
+
+    right : (i : ℕ) → i < nodeCount t → faultOf v i (nodeIn (nodesOf t) i) ≡ 0
+    right i h = ap (faultOf v i) (nodeIn-nodesOf t i h) ∙ a .records i h
+
+    at : (i : ℕ) (b : Bool) → ltb i (nodeCount t) ≡ b → Below i (nodeIn (nodesOf t) i)
+    at i true p =
+        let r = right-record v i (nodeIn (nodesOf t) i) (right i (ltb-true i (nodeCount t) p)) in (
+          field-below v i (useOfA (nodeIn (nodesOf t) i .kind)) (nodeIn (nodesOf t) i .a) (r .0),
+          field-below v i (useOfB (nodeIn (nodesOf t) i .kind)) (nodeIn (nodesOf t) i .b) (r .1),
+        )
+    at i false p =
+        subst⁻¹ (Below i) (past (nodesOf t) i (omega (arith, length-nodesOf t, ltb-false i (nodeCount t) p))) (tt, tt)
+
+    symbol : (i : ℕ) → nodeIn (nodesOf t) i .kind ≡ Symbol → (b : Bool) → ltb i (nodeCount t) ≡ b
+        → (0 < nodeIn (nodesOf t) i .a) × (nodeIn (nodesOf t) i .a ≤ v)
+    symbol i q true p =
+        let r = right-record v i (nodeIn (nodesOf t) i) (right i (ltb-true i (nodeCount t) p)) in
+        symbol-right v i (nodeIn (nodesOf t) i .a) (subst (λ (k : Kind). fieldRight v i (useOfA k) (nodeIn (nodesOf t) i .a) ≡ true) q (r .0))
+    symbol i q false p =
+        let f = ap (λ (n : Node). n .kind) (past (nodesOf t) i (omega (arith, length-nodesOf t, ltb-false i (nodeCount t) p))) in
+        let z : _≡_ {A = ℕ} 0 1 = cc in
+        absurd (omega arith)

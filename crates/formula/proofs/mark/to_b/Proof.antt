@@ -1,16 +1,14 @@
 -- `formula::mark::to_b` meets its contract: each kind gives its child b what the rules say. Assumes nothing.
 use mathlib.Core.Path.{sym, ap, _∙_}
 use borrow.Author.Needs.{needs}
-use Rattle.formula.specs.Marks.{joined, toB}
-use Rattle.formula.specs.declared.mark.Mark.{Mark}
+use Rattle.formula.specs.Marks.{toB}
 use Rattle.formula.specs.declared.node.Kind.{Kind}
 use Rattle.formula.proofs.mark.to_b.Statement.{statement}
 use Rattle.formula.proofs.mark.to_b.Tie as tie
 
 doubled-equivalent : tie.Need-returns-8
 doubled-equivalent c =
-    let m = c .before .before .before .before .args .m in
-    c .join .ensures ∙ ap (λ (n : Mark). joined m n) (c .before .turn .ensures) ∙ sym (ap (λ (k : Kind). toB k m) (c .before .before .enum-told8 .given .1))
+    c .double .ensures ∙ sym (ap (λ (k : Kind). toB k (c .before .before .before .args .m)) (c .before .enum-told8 .given .1))
 
 pub to-b-spec : {M : Type 1} → statement M
 to-b-spec =
@@ -28,7 +26,6 @@ to-b-spec =
     (λ c. search needs)
     (λ c. search needs)
     (λ c. search needs)
-    (λ c κs. search needs)
     (λ c κs. search needs)
     (λ c. search needs)
     (λ c κs. search needs)

@@ -1,0 +1,90 @@
+-- Helpers: the renamed nodes get the numbers after V, one each, in rising node number.
+-- Assumes nothing.
+use mathlib.Core.Path.{_≡_, refl, sym, ap, _∙_}
+use mathlib.Core.Bool.{Bool, true, false, cond}
+use mathlib.Core.List.{List}
+use Prim.Native.Nat.{ℕ, zero, suc, _+_, _≤_, _<_}
+use native.Mathlib.Decide.{decLt}
+use native.Mathlib.Omega.{arith}
+use lib.Dec.{eqb, leb}
+use lib.ListN.{length, List·getD-eq-default}
+use borrow.Author.Tests.{eqb-true, eqb-false, leb-true, leb-false}
+use Rattle.clausal.specs.Helpers.{renamed, renamedBelow, helperOf, variablesOf}
+
+module _ (s : List ℕ) where
+  -- a renamed node is in the set
+  pub renamed-inside : (i : ℕ) → renamed s i ≡ true → i < length s
+  renamed-inside i e = go (decLt i (length s))
+    where
+      go : Dec (i < length s) → i < length s
+      go (yes h) = h
+      go (no h) =
+          let f : renamed s i ≡ false = ap (λ (b : ℕ). eqb b 1) (List·getD-eq-default s 0 (omega arith)) in
+          let z : _≡_ {A = ℕ} 0 1 = cc in
+          absurd (omega arith)
+
+  below-renamed : (i : ℕ) → renamed s i ≡ true → renamedBelow s (suc i) ≡ renamedBelow s i + 1
+  unfolding renamedBelow
+  below-renamed i e = ap (λ (b : Bool). renamedBelow s i + cond b 1 0) e
+
+  below-step : (i : ℕ) → renamedBelow s i ≤ renamedBelow s (suc i)
+  unfolding renamedBelow
+  below-step i = omega arith
+
+  below-rises : (i n : ℕ) → i ≤ n → renamedBelow s i ≤ renamedBelow s n
+  below-rises i zero h = let e : i ≡ 0 = omega arith in rw e (omega arith)
+  below-rises i (suc n) h = go (leb i n) refl (below-rises i n)
+    where
+      go : (b : Bool) → leb i n ≡ b → (i ≤ n → renamedBelow s i ≤ renamedBelow s n) → renamedBelow s i ≤ renamedBelow s (suc n)
+      go true e ih = omega (arith, ih (leb-true i n e), below-step n)
+      go false e ih = let q : i ≡ suc n = omega (arith, leb-false i n e) in rw q (omega arith)
+
+  -- a node that is renamed counts for every node above it
+  pub below-grows : (i n : ℕ) → renamed s i ≡ true → i < n → renamedBelow s i < renamedBelow s n
+  below-grows i n e h = omega (arith, below-renamed i e, below-rises (suc i) n h)
+
+module _ (v : ℕ) (s : List ℕ) where
+  -- no helper is an option
+  pub helper-above : (i : ℕ) → v < helperOf v s i
+  helper-above i = omega arith
+
+  -- "Variables reported: V plus the number of helpers"
+  pub helper-most : (i n : ℕ) → renamed s i ≡ true → i < n → helperOf v s i ≤ variablesOf v s n
+  helper-most i n e h = omega (arith, below-grows s i n e h)
+
+  -- "in rising node number"
+  pub helper-rising : (i j : ℕ) → renamed s i ≡ true → i < j → helperOf v s i < helperOf v s j
+  helper-rising i j e h = omega (arith, below-grows s i j e h)
+
+  -- one helper each
+  pub helper-same : (i j : ℕ) → renamed s i ≡ true → renamed s j ≡ true → helperOf v s i ≡ helperOf v s j → i ≡ j
+  helper-same i j e f q = go (decLt i j) (decLt j i)
+    where
+      go : Dec (i < j) → Dec (j < i) → i ≡ j
+      go (yes h) d = absurd (omega (arith, helper-rising i j e h))
+      go (no h) (yes g) = absurd (omega (arith, helper-rising j i f g))
+      go (no h) (no g) = omega arith
+
+  -- "V+1, V+2, ..": each number after V, up to the variables reported, is the helper of a renamed node
+  pub record Helped (n x : ℕ) : Type 0 where
+    pub node : ℕ
+    pub inside : node < n
+    pub renames : renamed s node ≡ true
+    pub is : helperOf v s node ≡ x
+
+  pub helped : (n x : ℕ) → v < x → x ≤ variablesOf v s n → Helped n x
+  unfolding renamedBelow
+  helped zero x h g = absurd (omega arith)
+  helped (suc n) x h g = go (renamed s n) refl (helped n x h) (eqb x (helperOf v s n)) refl
+    where
+      go : (b : Bool) → renamed s n ≡ b → (x ≤ variablesOf v s n → Helped n x) → (c : Bool) → eqb x (helperOf v s n) ≡ c → Helped (suc n) x
+      go false e ih c f =
+          let same : renamedBelow s (suc n) ≡ renamedBelow s n + 0 = ap (λ (b : Bool). renamedBelow s n + cond b 1 0) e in
+          let r = ih (omega arith) in
+          record { node = r .node; inside = omega (arith, r .inside); renames = r .renames; is = r .is }
+      go true e ih true f = record { node = n; inside = omega arith; renames = e; is = sym (eqb-true x (helperOf v s n) f) }
+      go true e ih false f =
+          let more : renamedBelow s (suc n) ≡ renamedBelow s n + 1 = below-renamed s n e in
+          let other = eqb-false x (helperOf v s n) f in
+          let r = ih (omega arith) in
+          record { node = r .node; inside = omega (arith, r .inside); renames = r .renames; is = r .is }

@@ -1,0 +1,76 @@
+-- The clause with number k of the output stands at one place: in one part, under one number there.
+-- Assumes nothing.
+use mathlib.Core.Path.{_≡_, refl, sym, ap, _∙_, subst}
+use mathlib.Core.Bool.{Bool, true, false, cond}
+use mathlib.Core.List.{List, [], _∷_, _++_, append-nil, append-assoc}
+use Prim.Native.Nat.{ℕ, zero, suc, _+_, _-_, _≤_, _<_}
+use native.Mathlib.Nat.{not-suc-le-zero}
+use native.Mathlib.Omega.{arith}
+use lib.Dec.{ltb}
+use lib.ListN.{length, getD, length-append}
+use borrow.Author.Tests.{ltb-true, ltb-false, lt-ltb, le-ltb}
+use Rattle.formula.specs.declared.node.Node.{Node}
+use Rattle.clausal.specs.Algebra.{clauses}
+use Rattle.clausal.specs.Literals.{Clause}
+use Rattle.clausal.specs.Output.{Part, partsOf, gather, outputOf}
+use Rattle.clausal.specs.Places.{Place, further, placeIn, startOf, contentsOf, countsOf, contentIn, Stands}
+use Rattle.clausal.proofs.Clauses.{clause-left, clause-right}
+
+-- the output is the parts' clauses, one part after the other
+gather-contents : (cs : List Clause) (ps : List (Part (List Clause))) → gather clauses cs ps ≡ cs ++ contentsOf ps
+gather-contents cs [] = sym (append-nil cs)
+gather-contents cs (p ∷ ps) = gather-contents (cs ++ p .content) ps ∙ append-assoc cs (p .content) (contentsOf ps)
+
+pub output-contents : (v : ℕ) (s : List ℕ) (ns : List Node) → outputOf v s ns ≡ contentsOf (partsOf clauses v s ns)
+output-contents v s ns = gather-contents [] (partsOf clauses v s ns)
+
+-- every number has its place ..
+pub stands : (ps : List (Part (List Clause))) (k : ℕ) → k < length (contentsOf ps) → Stands ps k (placeIn (countsOf ps) k)
+stands [] k h = absurd (not-suc-le-zero h)
+stands (p ∷ ps) k h = go (ltb k (length (p .content))) refl (stands ps (k - length (p .content)))
+  where
+    go : (b : Bool) → ltb k (length (p .content)) ≡ b
+        → (k - length (p .content) < length (contentsOf ps) → Stands ps (k - length (p .content)) (placeIn (countsOf ps) (k - length (p .content))))
+        → Stands (p ∷ ps) k (cond b (record { part = 0; number = k }) (further (placeIn (countsOf ps) (k - length (p .content)))))
+    go true e ih = record { part = omega arith; number = ltb-true k (length (p .content)) e; sum = omega arith }
+    go false e ih =
+        let l : length (p .content) ≤ k = ltb-false k (length (p .content)) e in
+        let r = ih (omega (arith, length-append (p .content) (contentsOf ps))) in
+        record { part = omega (arith, r .part); number = r .number; sum = omega (arith, r .sum) }
+
+-- .. and no other
+pub stands-only : (ps : List (Part (List Clause))) (k : ℕ) (p : Place) → Stands ps k p → p ≡ placeIn (countsOf ps) k
+stands-only ps k p h = go ps k (p .part) (p .number) (h .part) (h .number) (h .sum)
+  where
+    go : (ps : List (Part (List Clause))) (k j m : ℕ) → j < length ps → m < length (contentIn ps j) → startOf (countsOf ps) j + m ≡ k
+        → record { part = j; number = m } ≡ placeIn (countsOf ps) k
+    go [] k j m h g e = absurd (not-suc-le-zero h)
+    go (p ∷ ps) k zero m h g e =
+        let f : m ≡ k = omega arith in
+        rw (lt-ltb k (length (p .content)) (omega arith)) (λ i. record { part = 0; number = f i })
+    go (p ∷ ps) k (suc j) m h g e =
+        rw (le-ltb k (length (p .content)) (omega arith)) (ap further (go ps (k - length (p .content)) j m (omega arith) g (omega arith)))
+
+-- the clause is the one that stands there
+pub clause-at : (ps : List (Part (List Clause))) (k : ℕ) (p : Place) → Stands ps k p → getD (contentsOf ps) k [] ≡ getD (contentIn ps (p .part)) (p .number) []
+clause-at ps k p h = go ps k (p .part) (p .number) (h .part) (h .number) (h .sum)
+  where
+    go : (ps : List (Part (List Clause))) (k j m : ℕ) → j < length ps → m < length (contentIn ps j) → startOf (countsOf ps) j + m ≡ k
+        → getD (contentsOf ps) k [] ≡ getD (contentIn ps j) m []
+    go [] k j m h g e = absurd (not-suc-le-zero h)
+    go (p ∷ ps) k zero m h g e =
+        let f : k ≡ m = omega arith in
+        clause-left (p .content) (contentsOf ps) k (omega arith) ∙ ap (λ (i : ℕ). getD (p .content) i []) f
+    go (p ∷ ps) k (suc j) m h g e =
+        clause-right (p .content) (contentsOf ps) k (omega arith) ∙ go ps (k - length (p .content)) j m (omega arith) g (omega arith)
+
+-- of the output
+module _ (v : ℕ) (s : List ℕ) (ns : List Node) (k : ℕ) where
+  abbrev pub place : Place
+  place = placeIn (countsOf (partsOf clauses v s ns)) k
+
+  pub output-stands : k < length (outputOf v s ns) → Stands (partsOf clauses v s ns) k place
+  output-stands h = stands (partsOf clauses v s ns) k (subst (λ (cs : List Clause). k < length cs) (output-contents v s ns) h)
+
+  pub output-clause : k < length (outputOf v s ns) → getD (outputOf v s ns) k [] ≡ getD (contentIn (partsOf clauses v s ns) (place .part)) (place .number) []
+  output-clause h = ap (λ (cs : List Clause). getD cs k []) (output-contents v s ns) ∙ clause-at (partsOf clauses v s ns) k place (output-stands h)

@@ -1,0 +1,2 @@
+-- Theorems of the entries.
+pub mod NoChoice
