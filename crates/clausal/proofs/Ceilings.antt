@@ -1,17 +1,16 @@
--- Totals read at their ceilings at each step are the true totals read at their ceilings: one argument for both ceilings and both signs.
--- The side fact that carries it: no clause, no literal.
+-- Totals read at their ceilings at each step are the true totals read at their ceilings: one argument for both ceilings and
+-- both signs. The side fact that carries it: no clause, no literal.
 -- Assumes nothing.
 use mathlib.Core.Path.{_≡_, refl, sym, ap, _∙_}
 use mathlib.Core.List.{List}
-use Prim.Native.Nat.{ℕ, zero, suc, _+_, _*_, _≤_, _<_, min}
-use native.Mathlib.Nat.{zero-mul, mul-zero, suc-mul, mul-comm, le-trans, le-mul-of-pos-right}
+use Prim.Native.Nat.{ℕ, zero, suc, _+_, _*_, _≤_, _<_}
+use native.Mathlib.Nat.{zero-mul, mul-zero, suc-mul, mul-comm, le-mul-of-pos-right}
 use native.Mathlib.Decide.{decLt}
 use native.Mathlib.Omega.{arith}
 use borrow.Author.Tests.{lt-ltb, le-ltb}
 use Rattle.laws.specs.Caps.{cap}
 use Rattle.laws.proofs.Caps.{cap-add, cap-scale, cap-mul}
 use Rattle.formula.specs.declared.node.Node.{Node}
-use Rattle.clausal.specs.Algebra.{Row}
 use Rattle.clausal.specs.Output.{wholeOf}
 use Rattle.clausal.specs.Rows.{rowOf}
 use Rattle.clausal.specs.Totals.{Size, sizes, readAt, cappedAt}
@@ -48,11 +47,16 @@ bare-join : (x y : Size) → Bare x → Bare y → Bare (sizes .join x y)
 bare-join x y p q e = go (side (x .clauses) 1)
   where
     go : Side (x .clauses) 1 → sizes .join x y .literals ≡ 0
-    go (under h) = let z : x .clauses ≡ 0 = omega arith in left-gone _ _ (y .clauses) (y .literals) z (p z)
-    go (over h) = let z : y .clauses ≡ 0 = zero-of-mul (x .clauses) (y .clauses) e h in right-gone (x .literals) (x .clauses) _ _ z (q z)
+    go (under h) =
+        let z : x .clauses ≡ 0 = omega arith in
+        left-gone _ _ (y .clauses) (y .literals) z (p z)
+    go (over h) =
+        let z : y .clauses ≡ 0 = zero-of-mul (x .clauses) (y .clauses) e h in
+        right-gone (x .literals) (x .clauses) _ _ z (q z)
 
 module _ (most full : ℕ) (one : 1 < most) (some : 0 < full) where
-  pub read-under : (x : Size) → x .clauses < most → readAt most full x ≡ record { clauses = x .clauses; literals = cap full (x .literals) }
+  pub read-under : (x : Size) → x .clauses < most
+      → readAt most full x ≡ record { clauses = x .clauses; literals = cap full (x .literals) }
   read-under x h = let e : cap most (x .clauses) ≡ x .clauses = omega arith in rw (e, lt-ltb (x .clauses) most h)
 
   pub read-over : (x : Size) → most ≤ x .clauses → readAt most full x ≡ record { clauses = most; literals = full }
@@ -72,7 +76,8 @@ module _ (most full : ℕ) (one : 1 < most) (some : 0 < full) where
           let f : x .clauses ≡ y .clauses = omega arith in
           read-under x (omega arith) ∙ (λ i. record { clauses = f i; literals = h g i }) ∙ sym (read-under y g)
 
-  read-cat : (x y : Size) → readAt most full (sizes .cat (readAt most full x) (readAt most full y)) ≡ readAt most full (sizes .cat x y)
+  read-cat : (x y : Size)
+      → readAt most full (sizes .cat (readAt most full x) (readAt most full y)) ≡ readAt most full (sizes .cat x y)
   read-cat x y = read-same _ _ (cap-add most (x .clauses) (y .clauses)) λ h.
       rw (literals-under x (omega arith), literals-under y (omega arith)) (cap-add full (x .literals) (y .literals))
 
@@ -93,7 +98,8 @@ module _ (most full : ℕ) (one : 1 < most) (some : 0 < full) where
 
   read-join : (x y : Size) → Bare x → Bare y
       → readAt most full (sizes .join (readAt most full x) (readAt most full y)) ≡ readAt most full (sizes .join x y)
-  read-join x y p q = read-same _ _ (cap-mul most (x .clauses) (y .clauses)) λ h. go h (side (x .clauses) most) (side (y .clauses) most)
+  read-join x y p q = read-same _ _ (cap-mul most (x .clauses) (y .clauses)) λ h.
+      go h (side (x .clauses) most) (side (y .clauses) most)
     where
       go : x .clauses * y .clauses < most → Side (x .clauses) most → Side (y .clauses) most
           → cap full (sizes .join (readAt most full x) (readAt most full y) .literals) ≡ cap full (sizes .join x y .literals)
@@ -104,26 +110,31 @@ module _ (most full : ℕ) (one : 1 < most) (some : 0 < full) where
           (cap-sum _ _ _ _ (cap-scale full (x .literals) (y .clauses)) (cap-scale-right (x .clauses) (y .literals)))
       go h (over f) g =
           let z : y .clauses ≡ 0 = zero-of-over (x .clauses) (y .clauses) f h in
-          ap (cap full) (right-gone _ _ _ _ (rw z (omega arith)) (read-bare y q z) ∙ sym (right-gone (x .literals) (x .clauses) _ _ z (q z)))
+          let gone = right-gone (x .literals) (x .clauses) _ _ z (q z) in
+          ap (cap full) (right-gone _ _ _ _ (rw z (omega arith)) (read-bare y q z) ∙ sym gone)
       go h (under f) (over g) =
           let z : x .clauses ≡ 0 = zero-of-over (y .clauses) (x .clauses) g (rw mul-comm at h) in
-          ap (cap full) (left-gone _ _ _ _ (rw z (omega arith)) (read-bare x p z) ∙ sym (left-gone _ _ (y .clauses) (y .literals) z (p z)))
+          let gone = left-gone _ _ (y .clauses) (y .literals) z (p z) in
+          ap (cap full) (left-gone _ _ _ _ (rw z (omega arith)) (read-bare x p z) ∙ sym gone)
 
   -- y is x read at the ceilings, and x has no literal without a clause
   pub record Reads (x y : Size) : Type 0 where
     pub read : y ≡ readAt most full x
     pub bare : Bare x
 
-  read-small : (c l : ℕ) → c < 2 → l < 2 → record { clauses = c; literals = l } ≡ readAt most full (record { clauses = c; literals = l })
-  read-small c l h g =
-      let e : cap full l ≡ l = omega arith in
-      sym (read-under (record { clauses = c; literals = l }) (omega arith) ∙ rw e)
+  read-small : (x : Size) → x .clauses < 2 → x .literals < 2 → x ≡ readAt most full x
+  read-small x h g =
+      let e : cap full (x .literals) ≡ x .literals = omega arith in
+      sym (read-under x (omega arith) ∙ rw e)
 
   pub reads-keeps : (Known : ℕ → Type 0) → Keeps Known sizes (cappedAt most full) Reads
   reads-keeps Known = record {
-    none = record { read = read-small 0 0 (omega arith) (omega arith); bare = λ e. refl };
-    empty = record { read = read-small 1 0 (omega arith) (omega arith); bare = λ e. refl };
-    unit = λ plain x k. record { read = read-small 1 1 (omega arith) (omega arith); bare = λ e. absurd (omega arith) };
+    none = record { read = read-small (sizes .none) (omega arith) (omega arith); bare = λ e. refl };
+    empty = record { read = read-small (sizes .empty) (omega arith) (omega arith); bare = λ e. refl };
+    unit = λ plain x k. record {
+      read = read-small (sizes .unit plain x) (omega arith) (omega arith);
+      bare = λ e. absurd (omega arith);
+    };
     cat = λ x y z w p q. record {
       read = (λ i. readAt most full (sizes .cat (p .read i) (q .read i))) ∙ read-cat x y;
       bare = λ e. omega (arith, p .bare (omega arith), q .bare (omega arith));
@@ -136,11 +147,13 @@ module _ (most full : ℕ) (one : 1 < most) (some : 0 < full) where
 
   -- every row, both signs
   pub capped-row : (v : ℕ) (s : List ℕ) (ns : List Node) (i : ℕ)
-      → rowOf (cappedAt most full) v s ns i ≡ record { P = readAt most full (rowOf sizes v s ns i .P); N = readAt most full (rowOf sizes v s ns i .N) }
+      → rowOf (cappedAt most full) v s ns i
+      ≡ record { P = readAt most full (rowOf sizes v s ns i .P); N = readAt most full (rowOf sizes v s ns i .N) }
   capped-row v s ns i =
       let u = related-row sizes (cappedAt most full) Reads v s ns (reads-keeps _) i in
       λ j. record { P = u .P tt .read j; N = u .N tt .read j }
 
   -- the whole output
-  pub capped-whole : (v : ℕ) (s : List ℕ) (ns : List Node) → wholeOf (cappedAt most full) v s ns ≡ readAt most full (wholeOf sizes v s ns)
+  pub capped-whole : (v : ℕ) (s : List ℕ) (ns : List Node)
+      → wholeOf (cappedAt most full) v s ns ≡ readAt most full (wholeOf sizes v s ns)
   capped-whole v s ns = related-whole sizes (cappedAt most full) Reads v s ns (reads-keeps _) .read

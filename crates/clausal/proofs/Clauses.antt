@@ -1,4 +1,5 @@
--- Clauses by their numbers: of a list followed by another by subtraction, of a join by quotient and remainder. By parts: in Places.
+-- Clauses by their numbers: of a list followed by another by subtraction, of a join by quotient and remainder.
+-- Of the output, by its parts: in Places.
 -- Assumes nothing.
 use mathlib.Core.Path.{_≡_, refl, sym, ap, _∙_}
 use mathlib.Core.Bool.{Bool, true, false}
@@ -24,7 +25,8 @@ clause-right cs ds k h =
     ap (λ (j : ℕ). getD (cs ++ ds) j []) e ∙ getD-append-add cs ds (k - length cs) []
 
 -- a join
-clause-one : (c : Clause) (ds : List Clause) (k : ℕ) → k < length ds → getD (map (λ d. c ++ d) ds) k [] ≡ c ++ getD ds k []
+clause-one : (c : Clause) (ds : List Clause) (k : ℕ) → k < length ds
+    → getD (map (λ d. c ++ d) ds) k [] ≡ c ++ getD ds k []
 clause-one c [] k h = absurd (not-suc-le-zero h)
 clause-one c (d ∷ ds) zero h = refl
 clause-one c (d ∷ ds) (suc k) h = clause-one c ds k (omega arith)
@@ -33,14 +35,18 @@ right-some : (a b k : ℕ) → k < a * b → 0 < b
 right-some a zero k h = absurd (omega (arith, mul-zero a))
 right-some a (suc b) k h = omega arith
 
+-- clause k of a join, by the numbers of its left and its right clause
+abbrev joined : List Clause → List Clause → ℕ → Clause
+joined cs ds k = getD cs (k / length ds) [] ++ getD ds (k % length ds) []
+
 pub clause-join : (cs ds : List Clause) (k : ℕ) → k < length cs * length ds
     → getD (joinAll cs ds) k [] ≡ getD cs (k / length ds) [] ++ getD ds (k % length ds) []
 clause-join [] ds k h = absurd (omega (arith, zero-mul (length ds)))
 clause-join (c ∷ cs) ds k h = go (ltb k (length ds)) refl (clause-join cs ds)
   where
     go : (b : Bool) → ltb k (length ds) ≡ b
-        → ((j : ℕ) → j < length cs * length ds → getD (joinAll cs ds) j [] ≡ getD cs (j / length ds) [] ++ getD ds (j % length ds) [])
-        → getD (map (λ d. c ++ d) ds ++ joinAll cs ds) k [] ≡ getD (c ∷ cs) (k / length ds) [] ++ getD ds (k % length ds) []
+        → ((j : ℕ) → j < length cs * length ds → getD (joinAll cs ds) j [] ≡ joined cs ds j)
+        → getD (joinAll (c ∷ cs) ds) k [] ≡ joined (c ∷ cs) ds k
     go true e ih =
         let l : k < length ds = ltb-true k (length ds) e in
         clause-left (map (λ d. c ++ d) ds) (joinAll cs ds) k (omega (arith, length-map ds (λ d. c ++ d)))
@@ -50,7 +56,8 @@ clause-join (c ∷ cs) ds k h = go (ltb k (length ds)) refl (clause-join cs ds)
         let j : ℕ = k - length ds in
         let p : 0 < length ds = right-some (suc (length cs)) (length ds) k h in
         let f : k ≡ length ds + j = omega arith in
-        let q : k / length ds ≡ suc (j / length ds) = ap (λ (i : ℕ). i / length ds) f ∙ add-div-left j p ∙ add-one (j / length ds) in
+        let q : k / length ds ≡ suc (j / length ds) =
+        ap (λ (i : ℕ). i / length ds) f ∙ add-div-left j p ∙ add-one (j / length ds) in
         let r : k % length ds ≡ j % length ds = ap (λ (i : ℕ). i % length ds) f ∙ add-mod-left (length ds) j in
         clause-right (map (λ d. c ++ d) ds) (joinAll cs ds) k (omega (arith, length-map ds (λ d. c ++ d)))
         ∙ ap (λ (i : ℕ). getD (joinAll cs ds) (k - i) []) (length-map ds (λ d. c ++ d))

@@ -1,5 +1,6 @@
--- What holds of every element of a list: of lists put together, of lists there only under a condition, and the truth of conjunctions.
+-- What holds of every element: of lists put together, and of lists that are there only under a condition; and truth as a type.
 -- Assumes nothing.
+use mathlib.Core.Path.{_≡_, refl}
 use mathlib.Core.Bool.{Bool, true, false, cond, _&&_}
 use mathlib.Core.List.{List, [], _∷_, _++_}
 use lib.Dec.{T}
@@ -31,6 +32,10 @@ module _ {A : Type 0} {Q : A → Type 0} where
 
   pub every-tail : {x : A} {xs : List A} → Every Q (x ∷ xs) → Every Q xs
   every-tail (more q e) = e
+
+pub true-of : (b : Bool) → T b → b ≡ true
+true-of true t = refl
+true-of false t = absurd t
 
 pub and-both : (a b : Bool) → T a → T b → T (a && b)
 and-both true b t u = u

@@ -9,7 +9,7 @@ use Rattle.formula.specs.Marks.{downFrom}
 use Rattle.clausal.specs.Choosing.{visitsFrom}
 use Rattle.clausal.specs.Helpers.{renamedBelow}
 use Rattle.clausal.specs.Output.{definitions}
-use Rattle.clausal.proofs.Notation.{Given, nothing, renamed, allowed, Example, all, holds}
+use Rattle.clausal.proofs.Notation.{nothing, renamed, allowed, Example, all, holds}
 use Rattle.clausal.proofs.Notation.{p, n, false-node, true-node, symbol, not-of, and-of, or-of, implies-of, equivalent-of}
 
 -- E = s1 equivalent s2, root E equivalent E, shared
@@ -208,6 +208,21 @@ examples =
       clauses = 8;
       literals = 24;
       bytes = 128;
+      first = [];
+    }
+    -- 9 with two nodes renamed: helpers in rising node number
+    ∷ record {
+      table = nine;
+      options = 6;
+      given = renamed (0 ∷ 0 ∷ 0 ∷ 0 ∷ 0 ∷ 0 ∷ 1 ∷ 1 ∷ 0 ∷ 0 ∷ 0 ∷ []);
+      set = 0 ∷ 0 ∷ 0 ∷ 0 ∷ 0 ∷ 0 ∷ 1 ∷ 1 ∷ 0 ∷ 0 ∷ 0 ∷ [];
+      variables = 8;
+      output =
+          (p 7 ∷ p 8 ∷ p 5 ∷ []) ∷ (p 7 ∷ p 8 ∷ p 6 ∷ []) ∷ (n 7 ∷ p 1 ∷ []) ∷ (n 7 ∷ p 2 ∷ []) ∷
+          (n 8 ∷ p 3 ∷ []) ∷ (n 8 ∷ p 4 ∷ []) ∷ [];
+      clauses = 6;
+      literals = 14;
+      bytes = 80;
       first = [];
     }
     ∷ []

@@ -1,46 +1,55 @@
--- The row in which each helper has its node's truth: it agrees with the row given on every option, and with the node on its helper.
+-- The row in which each helper has its node's truth: it agrees with the given row on every option, and with the node on its helper.
 -- Assumes nothing.
-use mathlib.Core.Path.{_≡_, refl, sym, ap, _∙_}
+use mathlib.Core.Path.{_≡_, refl, sym, _∙_}
 use mathlib.Core.Bool.{Bool, true, false, cond}
 use mathlib.Core.List.{List}
 use Prim.Native.Nat.{ℕ, zero, suc, _≤_, _<_}
 use native.Mathlib.Omega.{arith}
 use lib.Dec.{eqb}
 use lib.ListN.{length}
-use borrow.Author.Tests.{eqb-true, eqb-false, eq-eqb, ne-eqb}
+use borrow.Author.Tests.{eqb-true, eqb-false, eq-eqb}
 use Rattle.formula.specs.Truths.{truthOf}
 use Rattle.formula.specs.declared.node.Node.{Node}
 use Rattle.clausal.specs.Helpers.{renamed, helperOf}
 use Rattle.clausal.specs.Satisfies.{withHelpers, extended}
 use Rattle.clausal.proofs.Helpers.{helper-above, helper-rising}
 
-module _ (ρ : ℕ → Bool) (v : ℕ) (s : List ℕ) (ns : List Node) where
-  -- a variable that is no helper of node n
-  with-other : (n x : ℕ) → (renamed s n ≡ true → x ≡ helperOf v s n → ⊥) → withHelpers ρ v s ns (suc n) x ≡ withHelpers ρ v s ns n x
-  unfolding withHelpers
-  with-other n x other = go (renamed s n) refl
-    where
-      go : (b : Bool) → renamed s n ≡ b
-          → cond b (cond (eqb x (helperOf v s n)) (truthOf ρ ns n) (withHelpers ρ v s ns n x)) (withHelpers ρ v s ns n x) ≡ withHelpers ρ v s ns n x
-      go true e = ap (λ (b : Bool). cond b (truthOf ρ ns n) (withHelpers ρ v s ns n x)) (ne-eqb x (helperOf v s n) (other e))
-      go false e = refl
+-- what is chosen under two tests
+neither : (b c x y : Bool) → (b ≡ true → c ≡ true → ⊥) → cond b (cond c x y) y ≡ y
+neither true true x y n = absurd (n refl refl)
+neither true false x y n = refl
+neither false c x y n = refl
 
-  with-same : (n : ℕ) → renamed s n ≡ true → withHelpers ρ v s ns (suc n) (helperOf v s n) ≡ truthOf ρ ns n
+either : (b c x y : Bool) → b ≡ true → c ≡ true → cond b (cond c x y) y ≡ x
+either b c x y p q = λ i. cond (p i) (cond (q i) x y) y
+
+module _ (ρ : ℕ → Bool) (v : ℕ) (s : List ℕ) (ns : List Node) where
+  abbrev with-below : ℕ → ℕ → Bool
+  with-below n x = withHelpers ρ v s ns n x
+
+  -- node n changes nothing but its helper
+  with-other : (n x : ℕ) → (renamed s n ≡ true → x ≡ helperOf v s n → ⊥) → with-below (suc n) x ≡ with-below n x
+  unfolding withHelpers
+  with-other n x other =
+      neither (renamed s n) (eqb x (helperOf v s n)) _ (with-below n x) (λ e f. other e (eqb-true x (helperOf v s n) f))
+
+  with-same : (n : ℕ) → renamed s n ≡ true → with-below (suc n) (helperOf v s n) ≡ truthOf ρ ns n
   unfolding withHelpers
   with-same n e =
-      (λ i. cond (e i) (cond (eq-eqb (helperOf v s n) (helperOf v s n) refl i) (truthOf ρ ns n) (withHelpers ρ v s ns n (helperOf v s n))) (withHelpers ρ v s ns n (helperOf v s n)))
+      let h : ℕ = helperOf v s n in
+      either (renamed s n) (eqb h h) (truthOf ρ ns n) (with-below n h) e (eq-eqb h h refl)
 
-  with-option : (n x : ℕ) → x ≤ v → withHelpers ρ v s ns n x ≡ ρ x
+  with-option : (n x : ℕ) → x ≤ v → with-below n x ≡ ρ x
   unfolding withHelpers
   with-option zero x h = refl
   with-option (suc n) x h = with-other n x (λ e q. omega (arith, helper-above v s n)) ∙ with-option n x h
 
-  with-helper : (n i : ℕ) → i < n → renamed s i ≡ true → withHelpers ρ v s ns n (helperOf v s i) ≡ truthOf ρ ns i
+  with-helper : (n i : ℕ) → i < n → renamed s i ≡ true → with-below n (helperOf v s i) ≡ truthOf ρ ns i
   with-helper zero i h e = absurd (omega arith)
   with-helper (suc n) i h e = go (eqb i n) refl (with-helper n i)
     where
-      go : (b : Bool) → eqb i n ≡ b → (i < n → renamed s i ≡ true → withHelpers ρ v s ns n (helperOf v s i) ≡ truthOf ρ ns i)
-          → withHelpers ρ v s ns (suc n) (helperOf v s i) ≡ truthOf ρ ns i
+      go : (b : Bool) → eqb i n ≡ b → (i < n → renamed s i ≡ true → with-below n (helperOf v s i) ≡ truthOf ρ ns i)
+          → with-below (suc n) (helperOf v s i) ≡ truthOf ρ ns i
       go true q ih = let f : n ≡ i = sym (eqb-true i n q) in rw f (with-same i e)
       go false q ih =
           let other = eqb-false i n q in

@@ -1,6 +1,6 @@
 -- Helpers: the renamed nodes get the numbers after V, one each, in rising node number.
 -- Assumes nothing.
-use mathlib.Core.Path.{_≡_, refl, sym, ap, _∙_}
+use mathlib.Core.Path.{_≡_, refl, sym, ap}
 use mathlib.Core.Bool.{Bool, true, false, cond}
 use mathlib.Core.List.{List}
 use Prim.Native.Nat.{ℕ, zero, suc, _+_, _≤_, _<_}
@@ -35,7 +35,8 @@ module _ (s : List ℕ) where
   below-rises i zero h = let e : i ≡ 0 = omega arith in rw e (omega arith)
   below-rises i (suc n) h = go (leb i n) refl (below-rises i n)
     where
-      go : (b : Bool) → leb i n ≡ b → (i ≤ n → renamedBelow s i ≤ renamedBelow s n) → renamedBelow s i ≤ renamedBelow s (suc n)
+      go : (b : Bool) → leb i n ≡ b → (i ≤ n → renamedBelow s i ≤ renamedBelow s n)
+          → renamedBelow s i ≤ renamedBelow s (suc n)
       go true e ih = omega (arith, ih (leb-true i n e), below-step n)
       go false e ih = let q : i ≡ suc n = omega (arith, leb-false i n e) in rw q (omega arith)
 
@@ -48,13 +49,13 @@ module _ (v : ℕ) (s : List ℕ) where
   pub helper-above : (i : ℕ) → v < helperOf v s i
   helper-above i = omega arith
 
-  -- "Variables reported: V plus the number of helpers"
-  pub helper-most : (i n : ℕ) → renamed s i ≡ true → i < n → helperOf v s i ≤ variablesOf v s n
-  helper-most i n e h = omega (arith, below-grows s i n e h)
-
   -- "in rising node number"
   pub helper-rising : (i j : ℕ) → renamed s i ≡ true → i < j → helperOf v s i < helperOf v s j
   helper-rising i j e h = omega (arith, below-grows s i j e h)
+
+  -- "Variables reported: V plus the number of helpers"
+  pub helper-most : (i n : ℕ) → renamed s i ≡ true → i < n → helperOf v s i ≤ variablesOf v s n
+  helper-most i n e h = omega (arith, below-grows s i n e h)
 
   -- one helper each
   pub helper-same : (i j : ℕ) → renamed s i ≡ true → renamed s j ≡ true → helperOf v s i ≡ helperOf v s j → i ≡ j
@@ -75,16 +76,19 @@ module _ (v : ℕ) (s : List ℕ) where
   pub helped : (n x : ℕ) → v < x → x ≤ variablesOf v s n → Helped n x
   unfolding renamedBelow
   helped zero x h g = absurd (omega arith)
-  helped (suc n) x h g = go (renamed s n) refl (helped n x h) (eqb x (helperOf v s n)) refl
+  helped (suc n) x h g = go (renamed s n) refl (eqb x (helperOf v s n)) refl (λ l. before (helped n x h l))
     where
-      go : (b : Bool) → renamed s n ≡ b → (x ≤ variablesOf v s n → Helped n x) → (c : Bool) → eqb x (helperOf v s n) ≡ c → Helped (suc n) x
-      go false e ih c f =
+      before : Helped n x → Helped (suc n) x
+      before r = record { node = r .node; inside = omega (arith, r .inside); renames = r .renames; is = r .is }
+
+      go : (b : Bool) → renamed s n ≡ b → (c : Bool) → eqb x (helperOf v s n) ≡ c → (x ≤ variablesOf v s n → Helped (suc n) x)
+          → Helped (suc n) x
+      go false e c f ih =
           let same : renamedBelow s (suc n) ≡ renamedBelow s n + 0 = ap (λ (b : Bool). renamedBelow s n + cond b 1 0) e in
-          let r = ih (omega arith) in
-          record { node = r .node; inside = omega (arith, r .inside); renames = r .renames; is = r .is }
-      go true e ih true f = record { node = n; inside = omega arith; renames = e; is = sym (eqb-true x (helperOf v s n) f) }
-      go true e ih false f =
+          ih (omega arith)
+      go true e false f ih =
           let more : renamedBelow s (suc n) ≡ renamedBelow s n + 1 = below-renamed s n e in
           let other = eqb-false x (helperOf v s n) f in
-          let r = ih (omega arith) in
-          record { node = r .node; inside = omega (arith, r .inside); renames = r .renames; is = r .is }
+          ih (omega arith)
+      go true e true f ih =
+          record { node = n; inside = omega arith; renames = e; is = sym (eqb-true x (helperOf v s n) f) }

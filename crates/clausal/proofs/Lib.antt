@@ -1,4 +1,7 @@
--- Theorems of the clausal transformation.
+-- Theorems of the clausal transformation: examples first, then the one law and its instances, names, totals, and the meaning.
+pub mod Notation
+pub mod Examples
+pub mod Stated
 pub mod Related
 pub mod Rows
 pub mod Clauses
@@ -11,8 +14,6 @@ pub mod Totals
 pub mod Counts
 pub mod Truths
 pub mod Extended
-pub mod Defined
+pub mod Halves
+pub mod Known
 pub mod Meaning
-pub mod Notation
-pub mod Examples
-pub mod Stated

@@ -1,115 +1,139 @@
--- The clauses mean the formula: a row that satisfies them satisfies the formula, and a row that satisfies the formula, with each helper at its node's truth, satisfies them.
--- Both are one induction along the nodes: with polarities and implication, and with both signs and equality.
+-- The clauses mean the formula: a row that satisfies them satisfies the formula; and a row that satisfies the formula satisfies
+-- them, with each helper at its node's truth. Both are one induction along the nodes, here with implication and the polarities,
+-- there with equality and both signs.
 -- Assumes nothing.
-use mathlib.Core.Path.{_≡_, refl, sym, ap, _∙_, subst, subst⁻¹}
+use mathlib.Core.Path.{_≡_, refl, ap, _∙_, subst, subst⁻¹}
 use mathlib.Core.Bool.{Bool, true, false, cond, not, _&&_, _||_, Bool·beq}
-use mathlib.Core.List.{List, []}
+use mathlib.Core.List.{List}
 use Prim.Native.Nat.{ℕ, zero, suc, _-_, _≤_, _<_}
-use native.Mathlib.Decide.{decLt}
 use native.Mathlib.Omega.{arith}
 use lib.Dec.{T}
-use lib.ListN.{length, List·getD-eq-default}
+use lib.ListN.{length}
 use Rattle.answer.specs.declared.Answer.the-variants.{Accepted}
 use Rattle.formula.specs.Checks.{checked}
 use Rattle.formula.specs.Marks.{toA, toB, markOf}
-use Rattle.formula.specs.Nodes.{nodeAt, nodeCount, nodesOf, nodeIn}
+use Rattle.formula.specs.Nodes.{nodesOf, nodeIn}
 use Rattle.formula.specs.Paths.{has}
-use Rattle.formula.specs.Records.{known, useOfA, useOfB, fieldRight, faultOf}
+use Rattle.formula.specs.Records.{known}
 use Rattle.formula.specs.Truths.{truthOf, formulaTrue}
 use Rattle.formula.specs.declared.mark.Mark.{Mark}
 use Rattle.formula.specs.declared.node.Node.{Node}
 use Rattle.formula.proofs.Laws.Polarity.{passed-a, passed-b, root-positive}
-use Rattle.formula.proofs.Laws.Tables.{length-nodesOf, nodeIn-nodesOf}
-use Rattle.formula.proofs.Laws.WellFormed.{WellFormed, accepts, accepted-well-formed}
-use Rattle.clausal.specs.Algebra.{Row, unitRow, rowBy}
+use Rattle.formula.proofs.Laws.WellFormed.{WellFormed, accepted-well-formed}
+use Rattle.clausal.specs.Algebra.{Row, unitRow}
 use Rattle.clausal.specs.Helpers.{renamed, helperOf}
 use Rattle.clausal.specs.Output.{outputOf}
-use Rattle.clausal.specs.Rows.{seen, rowOf}
+use Rattle.clausal.specs.Rows.{rowOf}
 use Rattle.clausal.specs.Satisfies.{satisfies, truths, extended}
-use Rattle.clausal.proofs.Defined.{Defines, AllTrue, whole-true}
 use Rattle.clausal.proofs.Extended.{extended-option, extended-helper}
+use Rattle.clausal.proofs.Halves.{Defines, AllTrue, whole-true}
+use Rattle.clausal.proofs.Known.{accepted-known}
 use Rattle.clausal.proofs.Related.{Keeps, Under, both, under-by}
-use Rattle.clausal.proofs.Rows.{a-below, b-below, row-at}
+use Rattle.clausal.proofs.Rows.{ruleAt, seenOf, a-below, b-below, row-at}
 use Rattle.clausal.proofs.Truths.{satisfies-output, signed, signed-unit, truth-at}
 
--- the induction: rows under a set, in the row τ, against truths in the row ρ, at the signs that m gives each node
-module _ (ns : List Node) (v : ℕ) (s : List ℕ) (wf : WellFormed v ns) (kinds : (i : ℕ) → known (nodeIn ns i .kind) ≡ true) (ρ τ : ℕ → Bool) where
-  abbrev row : ℕ → Row Bool
-  row i = rowOf (truths τ) v s ns i
+-- a list of nodes under a set: its rows in the row τ, seen as children or not, and its truths in the row ρ
+module _ (ns : List Node) (v : ℕ) (s : List ℕ) where
+  abbrev row : (ℕ → Bool) → ℕ → Row Bool
+  row τ i = rowOf (truths τ) v s ns i
 
-  abbrev truth : ℕ → Row Bool
-  truth i = signed (truthOf ρ ns i)
+  abbrev child : (ℕ → Bool) → ℕ → Row Bool
+  child τ j = seenOf (truths τ) v s ns j
 
-  module _ (Q : Bool → Bool → Type 0) (keeps : Keeps (λ x. x ≤ v) (truths τ) (truths ρ) Q) (m : ℕ → Mark)
-      (to-a : (i : ℕ) (z : Bool) → T (has z (toA (nodeIn ns i .kind) (m i))) → T (has z (m (nodeIn ns i .a))))
-      (to-b : (i : ℕ) (z : Bool) → T (has z (toB (nodeIn ns i .kind) (m i))) → T (has z (m (nodeIn ns i .b))))
-      (seen-as : (j : ℕ) → j < length ns → Under Q (m j) (row j) (truth j) → Under Q (m j) (seen (truths τ) v s j (row j)) (truth j)) where
-    child : (i j : ℕ) (given : Mark) → ((z : Bool) → T (has z given) → j < i) → ((z : Bool) → T (has z given) → T (has z (m j)))
-        → (j < i → Under Q (m j) (seen (truths τ) v s j (row j)) (truth j)) → Under Q given (seen (truths τ) v s j (row j)) (truth j)
-    child i j given below to u = record { P = λ t. u (below true t) .P (to true t); N = λ t. u (below false t) .N (to false t) }
+  abbrev truth : (ℕ → Bool) → ℕ → Row Bool
+  truth ρ i = signed (truthOf ρ ns i)
 
-    means : (n i : ℕ) → i < n → n ≤ length ns → Under Q (m i) (row i) (truth i)
-    means zero i h l = absurd (omega arith)
-    means (suc n) i h l = go (λ j g. seen-as j (omega arith) (means n j (omega arith) (omega arith)))
-      where
-        go : ((j : ℕ) → j < i → Under Q (m j) (seen (truths τ) v s j (row j)) (truth j)) → Under Q (m i) (row i) (truth i)
-        go ih =
-            let node : Node = nodeIn ns i in
-            subst⁻¹ (λ (x : Row Bool). Under Q (m i) x (truth i)) (row-at (truths τ) v s ns i (omega arith) (wf .below i))
-            (subst⁻¹ (λ (y : Row Bool). Under Q (m i) (rowBy (truths τ) (node .kind) (node .a) (seen (truths τ) v s (node .a) (row (node .a))) (seen (truths τ) v s (node .b) (row (node .b)))) y)
-            (truth-at ρ ns i (omega arith) (wf .below i) (kinds i))
-            (under-by (λ x. x ≤ v) (truths τ) (truths ρ) Q keeps (node .kind) (node .a) (m i) _ _ _ _ (λ e. wf .symbols i e .1)
-            (child i (node .a) (toA (node .kind) (m i)) (a-below i node (m i) (wf .below i)) (to-a i) (ih (node .a)))
-            (child i (node .b) (toB (node .kind) (m i)) (b-below i node (m i) (wf .below i)) (to-b i) (ih (node .b)))))
+  module _ (wf : WellFormed v ns) (kinds : (i : ℕ) → known (nodeIn ns i .kind) ≡ true) where
+    -- the induction: what is kept holds of every node, at the signs that m gives it, if it holds of a node seen as a child
+    module _ (ρ τ : ℕ → Bool) (Q : Bool → Bool → Type 0) (keeps : Keeps (λ x. x ≤ v) (truths τ) (truths ρ) Q) (m : ℕ → Mark)
+        (to-a : (i : ℕ) (z : Bool) → T (has z (toA (nodeIn ns i .kind) (m i))) → T (has z (m (nodeIn ns i .a))))
+        (to-b : (i : ℕ) (z : Bool) → T (has z (toB (nodeIn ns i .kind) (m i))) → T (has z (m (nodeIn ns i .b))))
+        (as-seen : (j : ℕ) → j < length ns → Under Q (m j) (row τ j) (truth ρ j) → Under Q (m j) (child τ j) (truth ρ j)) where
+      passed-on : (i j : ℕ) (given : Mark) → ((z : Bool) → T (has z given) → j < i) → ((z : Bool) → T (has z given) → T (has z (m j)))
+          → (j < i → Under Q (m j) (child τ j) (truth ρ j)) → Under Q given (child τ j) (truth ρ j)
+      passed-on i j given below to u = record {
+        P = λ t. u (below true t) .P (to true t);
+        N = λ t. u (below false t) .N (to false t);
+      }
 
--- implication is kept: both lists grow or both shrink
-and-implies : (x y z w : Bool) → (T x → T z) → (T y → T w) → T (x && y) → T (z && w)
-and-implies true y true w f g t = g t
-and-implies true y false w f g t = absurd (f tt)
-and-implies false y z w f g t = absurd t
+      at-node : (i : ℕ) → i < length ns → ((j : ℕ) → j < i → Under Q (m j) (child τ j) (truth ρ j)) → Under Q (m i) (row τ i) (truth ρ i)
+      at-node i h u =
+          let n : Node = nodeIn ns i in
+          subst⁻¹ (λ (x : Row Bool). Under Q (m i) x (truth ρ i)) (row-at (truths τ) v s ns i h (wf .below i))
+          (subst⁻¹ (λ (y : Row Bool). Under Q (m i) (ruleAt (truths τ) n (child τ)) y) (truth-at ρ ns i h (wf .below i) (kinds i))
+          (under-by (λ x. x ≤ v) (truths τ) (truths ρ) Q keeps (n .kind) (n .a) (m i) _ _ _ _ (λ e. wf .symbols i e .1)
+          (passed-on i (n .a) (toA (n .kind) (m i)) (a-below i n (m i) (wf .below i)) (to-a i) (u (n .a)))
+          (passed-on i (n .b) (toB (n .kind) (m i)) (b-below i n (m i) (wf .below i)) (to-b i) (u (n .b)))))
 
-or-implies : (x y z w : Bool) → (T x → T z) → (T y → T w) → T (x || y) → T (z || w)
-or-implies x y true w f g t = tt
-or-implies true y false w f g t = absurd (f tt)
-or-implies false y false w f g t = g t
+      means : (n i : ℕ) → i < n → n ≤ length ns → Under Q (m i) (row τ i) (truth ρ i)
+      means zero i h l = absurd (omega arith)
+      means (suc n) i h l = at-node i (omega arith) (λ j g. as-seen j (omega arith) (means n j (omega arith) (omega arith)))
 
-implies-keeps : (Known : ℕ → Type 0) (ρ : ℕ → Bool) → Keeps Known (truths ρ) (truths ρ) (λ x y. T x → T y)
-implies-keeps Known ρ = record {
+-- implication is kept
+abbrev Gives : Bool → Bool → Type 0
+Gives x y = T x → T y
+
+and-gives : (x y z w : Bool) → Gives x z → Gives y w → Gives (x && y) (z && w)
+and-gives true y true w f g t = g t
+and-gives true y false w f g t = absurd (f tt)
+and-gives false y z w f g t = absurd t
+
+or-gives : (x y z w : Bool) → Gives x z → Gives y w → Gives (x || y) (z || w)
+or-gives x y true w f g t = tt
+or-gives true y false w f g t = absurd (f tt)
+or-gives false y false w f g t = g t
+
+gives-keeps : (Known : ℕ → Type 0) (ρ : ℕ → Bool) → Keeps Known (truths ρ) (truths ρ) Gives
+gives-keeps Known ρ = record {
   none = λ t. t;
   empty = λ t. t;
   unit = λ plain x k t. t;
-  cat = and-implies;
-  join = or-implies;
+  cat = and-gives;
+  join = or-gives;
 }
 
 -- a helper that is true, under its half down, and one that is false, under its half up
-down-half : (h p : Bool) → T (Bool·beq false h || p) → T (Bool·beq true h) → T p
+down-half : (h p : Bool) → T (Bool·beq false h || p) → Gives (Bool·beq true h) p
 down-half true p d t = d
 down-half false p d t = absurd t
 
-up-half : (h n : Bool) → T (n || Bool·beq true h) → T (Bool·beq false h) → T n
+up-half : (h n : Bool) → T (n || Bool·beq true h) → Gives (Bool·beq false h) n
 up-half true n u t = absurd t
 up-half false true u t = tt
 up-half false false u t = absurd u
 
+-- where a helper has its node's truth, both halves hold
+down-holds : (b : Bool) → T (Bool·beq false b || b)
+down-holds true = tt
+down-holds false = tt
+
+up-holds : (b : Bool) → T (not b || Bool·beq true b)
+up-holds true = tt
+up-holds false = tt
+
+has-both : (z : Bool) → T (has z both)
+has-both true = tt
+has-both false = tt
+
 module _ (ns : List Node) (v : ℕ) (s : List ℕ) (wf : WellFormed v ns) (kinds : (i : ℕ) → known (nodeIn ns i .kind) ≡ true) (ρ : ℕ → Bool) where
-  -- along the polarities, what the rows under the set say is so, where the definitions hold
-  sound-rows : AllTrue ρ v s ns → (i : ℕ) → i < length ns → Under (λ x y. T x → T y) (markOf ns i) (rowOf (truths ρ) v s ns i) (signed (truthOf ρ ns i))
+  -- where the definitions hold, a row gives the truth, along the polarities
+  sound-rows : AllTrue ρ v s ns → (i : ℕ) → i < length ns → Under Gives (markOf ns i) (row ns v s ρ i) (truth ns v s ρ i)
   sound-rows all i h =
-      means ns v s wf kinds ρ ρ (λ x y. T x → T y) (implies-keeps _ ρ) (markOf ns) (passed-a ns (wf .below)) (passed-b ns (wf .below)) as-seen (length ns) i h (omega arith)
+      means ns v s wf kinds ρ ρ Gives (gives-keeps _ ρ) (markOf ns) (passed-a ns (wf .below)) (passed-b ns (wf .below)) as-seen
+      (length ns) i h (omega arith)
     where
-      as-seen : (j : ℕ) → j < length ns → Under (λ x y. T x → T y) (markOf ns j) (rowOf (truths ρ) v s ns j) (signed (truthOf ρ ns j))
-          → Under (λ x y. T x → T y) (markOf ns j) (seen (truths ρ) v s j (rowOf (truths ρ) v s ns j)) (signed (truthOf ρ ns j))
+      as-seen : (j : ℕ) → j < length ns → Under Gives (markOf ns j) (row ns v s ρ j) (truth ns v s ρ j)
+          → Under Gives (markOf ns j) (child ns v s ρ j) (truth ns v s ρ j)
       as-seen j l u = go (renamed s j) refl
         where
           go : (b : Bool) → renamed s j ≡ b
-              → Under (λ x y. T x → T y) (markOf ns j) (cond b (unitRow (truths ρ) (helperOf v s j)) (rowOf (truths ρ) v s ns j)) (signed (truthOf ρ ns j))
+              → Under Gives (markOf ns j) (cond b (unitRow (truths ρ) (helperOf v s j)) (row ns v s ρ j)) (truth ns v s ρ j)
           go false e = u
           go true e =
               let d : Defines ρ v s ns j = all .defines j l e in
               record {
-                P = λ z t. u .P z (down-half (ρ (helperOf v s j)) (rowOf (truths ρ) v s ns j .P) (d .down z) t);
-                N = λ z t. u .N z (up-half (ρ (helperOf v s j)) (rowOf (truths ρ) v s ns j .N) (d .up z) t);
+                P = λ z t. u .P z (down-half (ρ (helperOf v s j)) (row ns v s ρ j .P) (d .down z) t);
+                N = λ z t. u .N z (up-half (ρ (helperOf v s j)) (row ns v s ρ j .N) (d .up z) t);
               }
 
   sound-nodes : T (satisfies ρ (outputOf v s ns)) → T (formulaTrue ρ ns)
@@ -130,20 +154,16 @@ module _ (ns : List Node) (v : ℕ) (s : List ℕ) (wf : WellFormed v ns) (kinds
     join = λ x y z w p q. λ i. p i || q i;
   }
 
-  -- in it the rows under the set are the nodes' truths
-  complete-rows : (i : ℕ) → i < length ns → Under _≡_ both (rowOf (truths τ) v s ns i) (signed (truthOf ρ ns i))
+  -- in it every row is the truth
+  complete-rows : (i : ℕ) → i < length ns → Under _≡_ both (row ns v s τ i) (truth ns v s ρ i)
   complete-rows i h =
-      means ns v s wf kinds ρ τ _≡_ equal-keeps (λ j. both) (λ j z t. any z) (λ j z t. any z) as-seen (length ns) i h (omega arith)
+      means ns v s wf kinds ρ τ _≡_ equal-keeps (λ j. both) (λ j z t. has-both z) (λ j z t. has-both z) as-seen
+      (length ns) i h (omega arith)
     where
-      any : (z : Bool) → T (has z both)
-      any true = tt
-      any false = tt
-
-      as-seen : (j : ℕ) → j < length ns → Under _≡_ both (rowOf (truths τ) v s ns j) (signed (truthOf ρ ns j))
-          → Under _≡_ both (seen (truths τ) v s j (rowOf (truths τ) v s ns j)) (signed (truthOf ρ ns j))
+      as-seen : (j : ℕ) → j < length ns → Under _≡_ both (row ns v s τ j) (truth ns v s ρ j) → Under _≡_ both (child ns v s τ j) (truth ns v s ρ j)
       as-seen j l u = go (renamed s j) refl
         where
-          go : (b : Bool) → renamed s j ≡ b → Under _≡_ both (cond b (unitRow (truths τ) (helperOf v s j)) (rowOf (truths τ) v s ns j)) (signed (truthOf ρ ns j))
+          go : (b : Bool) → renamed s j ≡ b → Under _≡_ both (cond b (unitRow (truths τ) (helperOf v s j)) (row ns v s τ j)) (truth ns v s ρ j)
           go false e = u
           go true e =
               let q = signed-unit (τ (helperOf v s j)) ∙ ap signed (extended-helper ρ v s ns j l e) in
@@ -156,33 +176,10 @@ module _ (ns : List Node) (v : ℕ) (s : List ℕ) (wf : WellFormed v ns) (kinds
         let u = complete-rows i h in
         let e : τ (helperOf v s i) ≡ truthOf ρ ns i = extended-helper ρ v s ns i h r in
         record {
-          down = λ m. subst⁻¹ T (λ j. Bool·beq false (e j) || u .P tt j) (either (truthOf ρ ns i));
-          up = λ m. subst⁻¹ T (λ j. u .N tt j || Bool·beq true (e j)) (neither (truthOf ρ ns i));
+          down = λ m. subst⁻¹ T (λ j. Bool·beq false (e j) || u .P tt j) (down-holds (truthOf ρ ns i));
+          up = λ m. subst⁻¹ T (λ j. u .N tt j || Bool·beq true (e j)) (up-holds (truthOf ρ ns i));
         };
   }))
-    where
-      either : (b : Bool) → T (Bool·beq false b || b)
-      either true = tt
-      either false = tt
-
-      neither : (b : Bool) → T (not b || Bool·beq true b)
-      neither true = tt
-      neither false = tt
-
--- the kinds of an accepted table are known
-known-right : (v i : ℕ) (n : Node) → faultOf v i n ≡ 0 → known (n .kind) ≡ true
-known-right v i n e = go (known (n .kind)) (fieldRight v i (useOfA (n .kind)) (n .a)) (fieldRight v i (useOfB (n .kind)) (n .b)) e
-  where
-    go : (k a b : Bool) → _≡_ {A = ℕ} (cond k (cond a (cond b 0 3) 3) 3) 0 → k ≡ true
-    go true a b q = refl
-    go false a b q = absurd (omega arith)
-
-accepted-known : (t : List ℕ) (v x y : ℕ) → checked t v ≡ Accepted x y → (i : ℕ) → known (nodeIn (nodesOf t) i .kind) ≡ true
-accepted-known t v x y e i = go (decLt i (nodeCount t))
-  where
-    go : Dec (i < nodeCount t) → known (nodeIn (nodesOf t) i .kind) ≡ true
-    go (yes h) = ap (λ (n : Node). known (n .kind)) (nodeIn-nodesOf t i h) ∙ known-right v i (nodeAt t i) (accepts t v x y e .records i h)
-    go (no h) = ap (λ (n : Node). known (n .kind)) (List·getD-eq-default (nodesOf t) (nodeIn [] i) (omega (arith, length-nodesOf t)))
 
 -- for every accepted table, every set and every row of truth values
 module _ (t : List ℕ) (v : ℕ) (accepted : checked t v ≡ Accepted 0 0) (s : List ℕ) (ρ : ℕ → Bool) where

@@ -1,23 +1,24 @@
--- The naming rule: every variable of the output is one of the project's options or a helper of its own, and no helper is anybody's option.
+-- The naming rule: every variable of the output is one of the project's options or a helper of its own, and no helper is
+-- anybody's option.
 -- Assumes nothing.
-use mathlib.Core.Path.{_≡_, refl, sym, ap, _∙_}
+use mathlib.Core.Path.{_≡_, refl, ap}
 use mathlib.Core.Bool.{Bool, true, false, cond}
-use mathlib.Core.List.{List, [], _∷_, _++_, map}
+use mathlib.Core.List.{List, [], _++_, map}
 use mathlib.Core.Logic.{_≢_}
-use Prim.Native.Nat.{ℕ, zero, suc, _+_, _≤_, _<_}
+use Prim.Native.Nat.{ℕ, _≤_, _<_}
 use native.Mathlib.Decide.{decLt}
 use native.Mathlib.Omega.{arith}
-use lib.Dec.{eqb, ltb}
+use lib.Dec.{eqb}
 use lib.ListN.{length, List·getD-eq-default}
 use borrow.Author.Tests.{eqb-true}
 use Rattle.answer.specs.declared.Answer.{Answer}
 use Rattle.answer.specs.declared.Answer.the-variants.{Accepted, Set}
 use Rattle.formula.specs.Checks.{checked}
 use Rattle.formula.specs.Nodes.{nodesOf, nodeIn}
-use Rattle.formula.specs.Sets.{firstWrongByte, setChecked}
+use Rattle.formula.specs.Sets.{setChecked}
 use Rattle.formula.specs.declared.node.Kind.the-variants.{Symbol}
 use Rattle.formula.specs.declared.node.Node.{Node}
-use Rattle.formula.proofs.Laws.WellFormed.{WellFormed, accepted-well-formed}
+use Rattle.formula.proofs.Laws.WellFormed.{accepted-well-formed}
 use Rattle.clausal.specs.Algebra.{Algebra, joinAll, clauses}
 use Rattle.clausal.specs.Helpers.{renamed, helperOf, variablesOf}
 use Rattle.clausal.specs.Literals.{Literal, Clause}
@@ -25,7 +26,7 @@ use Rattle.clausal.specs.Origins.{Origin, option, helper, Every, none, m
 use Rattle.clausal.specs.Output.{outputOf}
 use Rattle.clausal.proofs.Every.{every-append}
 use Rattle.clausal.proofs.Related.{Keeps, related-whole}
-use Rattle.clausal.proofs.Helpers.{renamed-inside, helper-above, helper-most, helper-same}
+use Rattle.clausal.proofs.Helpers.{renamed-inside, helper-above, helper-most}
 
 -- the names of a join are those of its sides
 module _ (Q : Literal → Type 0) where
@@ -57,12 +58,12 @@ module _ (v : ℕ) (s : List ℕ) (ns : List Node) where
 
 -- a right set is as long as the table
 length-right : (ns : List Node) (s : List ℕ) (x y : ℕ) → setChecked ns s ≡ Accepted x y → length s ≡ length ns
-length-right ns s x y = go (eqb (length s) (length ns)) refl
+length-right ns s x y = go (eqb (length s) (length ns)) refl _
   where
-    go : (b : Bool) → eqb (length s) (length ns) ≡ b
-        → cond b (cond (ltb (firstWrongByte ns s) (length ns)) (Set (firstWrongByte ns s)) (Accepted 0 0)) (Set (length ns)) ≡ Accepted x y → length s ≡ length ns
-    go true e a = eqb-true (length s) (length ns) e
-    go false e a = let z : _≡_ {A = ℕ} 0 1 = cc in absurd (omega arith)
+    go : (b : Bool) → eqb (length s) (length ns) ≡ b → (rest : Answer) → cond b rest (Set (length ns)) ≡ Accepted x y
+        → length s ≡ length ns
+    go true e rest a = eqb-true (length s) (length ns) e
+    go false e rest a = let z : _≡_ {A = ℕ} 0 1 = cc in absurd (omega arith)
 
 -- a symbol stands in the table
 symbol-inside : (ns : List Node) (i : ℕ) → nodeIn ns i .kind ≡ Symbol → i < length ns
@@ -71,12 +72,18 @@ symbol-inside ns i e = go (decLt i (length ns))
     go : Dec (i < length ns) → i < length ns
     go (yes h) = h
     go (no h) =
-        let f : nodeIn ns i .kind ≡ nodeIn [] i .kind = ap (λ (n : Node). n .kind) (List·getD-eq-default ns (nodeIn [] i) (omega arith)) in
+        let past : nodeIn ns i ≡ nodeIn [] i = List·getD-eq-default ns (nodeIn [] i) (omega arith) in
+        let f : nodeIn ns i .kind ≡ nodeIn [] i .kind = ap (λ (n : Node). n .kind) past in
         let z : _≡_ {A = ℕ} 0 1 = cc in
         absurd (omega arith)
 
--- for an accepted table and a right set
-module _ (t : List ℕ) (v : ℕ) (s : List ℕ) (accepted : checked t v ≡ Accepted 0 0) (right : setChecked (nodesOf t) s ≡ Accepted 0 0) where
+-- no helper is anybody's option
+pub helper-no-option : (v : ℕ) (s : List ℕ) (i x : ℕ) → x ≤ v → helperOf v s i ≢ x
+helper-no-option v s i x h e = omega (arith, helper-above v s i)
+
+-- an accepted table and a right set
+module _ (t : List ℕ) (v : ℕ) (s : List ℕ)
+    (accepted : checked t v ≡ Accepted 0 0) (right : setChecked (nodesOf t) s ≡ Accepted 0 0) where
   -- an option: a symbol that the table holds, from 1 to V
   pub option-range : (i : ℕ) → nodeIn (nodesOf t) i .kind ≡ Symbol
       → (i < length (nodesOf t)) × (0 < nodeIn (nodesOf t) i .a) × (nodeIn (nodesOf t) i .a ≤ v)
@@ -96,14 +103,18 @@ module _ (t : List ℕ) (v : ℕ) (s : List ℕ) (accepted : checked t v ≡ Acc
   variable-range x (option i e) = let r = option-range i e in (r .1, omega (arith, r .2))
   variable-range x (helper i e) = let r = helper-range i e in (omega (arith, r .1), r .2)
 
--- two formulas of one project, the second converted with an option count of no less than the variables reported of the first
-module _ (t : List ℕ) (v : ℕ) (s : List ℕ) (accepted : checked t v ≡ Accepted 0 0) (right : setChecked (nodesOf t) s ≡ Accepted 0 0)
-    (t2 : List ℕ) (v2 : ℕ) (s2 : List ℕ) (later : variablesOf v s (length (nodesOf t)) ≤ v2) where
+-- a second formula, converted with an option count w of no less than the variables reported of the first
+module _ (t : List ℕ) (v : ℕ) (s : List ℕ)
+    (accepted : checked t v ≡ Accepted 0 0) (right : setChecked (nodesOf t) s ≡ Accepted 0 0)
+    (u : List ℕ) (w : ℕ) (r : List ℕ) (later : variablesOf v s (length (nodesOf t)) ≤ w) where
   -- no helper of the second is a variable of the first
-  pub second-apart : (x : ℕ) → Origin v s (nodesOf t) x → (j : ℕ) → helperOf v2 s2 j ≢ x
-  second-apart x o j e = omega (arith, variable-range t v s accepted right x o .1, helper-above v2 s2 j)
+  pub second-apart : (x : ℕ) → Origin v s (nodesOf t) x → (j : ℕ) → helperOf w r j ≢ x
+  second-apart x o j e = omega (arith, variable-range t v s accepted right x o .1, helper-above w r j)
 
   -- and no helper of the first is a variable of the second, whose symbols are options of the same project
-  pub first-apart : checked t2 v ≡ Accepted 0 0 → (x : ℕ) → Origin v2 s2 (nodesOf t2) x → (i : ℕ) → renamed s i ≡ true → helperOf v s i ≢ x
-  first-apart accepted2 x (option j e) i r q = omega (arith, accepted-well-formed t2 v 0 0 accepted2 .symbols j e .1, helper-above v s i)
-  first-apart accepted2 x (helper j e) i r q = omega (arith, helper-range t v s accepted right i r .2, helper-above v2 s2 j)
+  pub first-apart : checked u v ≡ Accepted 0 0 → (i : ℕ) → renamed s i ≡ true
+      → (x : ℕ) → Origin w r (nodesOf u) x → helperOf v s i ≢ x
+  first-apart same i e x (option j k) q =
+      omega (arith, accepted-well-formed u v 0 0 same .symbols j k .1, helper-above v s i)
+  first-apart same i e x (helper j k) q =
+      omega (arith, helper-range t v s accepted right i e .2, helper-above w r j)

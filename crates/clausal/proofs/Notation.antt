@@ -8,12 +8,11 @@ use lib.ListN.{length, take, replicate}
 use Rattle.laws.specs.Bytes.{little}
 use Rattle.answer.specs.Numbers.{toldOf}
 use Rattle.answer.specs.declared.Answer.{Answer}
-use Rattle.answer.specs.declared.Told.{Told}
 use Rattle.formula.specs.Checks.{checked}
 use Rattle.formula.specs.Nodes.{nodesOf}
 use Rattle.formula.specs.Sets.{setChecked}
 use Rattle.formula.specs.declared.node.Node.{Node}
-use Rattle.clausal.specs.Choosing.{Choice, choose}
+use Rattle.clausal.specs.Choosing.{choose}
 use Rattle.clausal.specs.Helpers.{variablesOf}
 use Rattle.clausal.specs.Literals.{Literal, Clause, clausesBytes}
 use Rattle.clausal.specs.Output.{outputOf}
@@ -101,16 +100,19 @@ all test (x ∷ xs) = test x && all test xs
 
 abbrev holdsUnder : Example → List Node → List ℕ → Bool
 holdsUnder e ns s =
+    let v = e .options in
     accepted (setChecked ns s)
     && same eqb s (e .set)
-    && eqb (variablesOf (e .options) s (length ns)) (e .variables)
-    && same (same sameLiteral) (outputOf (e .options) s ns) (e .output)
-    && sized (e .clauses) (e .literals) (sizeOf (outputOf (e .options) s ns))
-    && sized (e .clauses) (e .literals) (trueTotals (e .options) s ns)
-    && sized (e .clauses) (e .literals) (totals (e .options) s ns)
-    && eqb (length (clausesBytes (outputOf (e .options) s ns))) (e .bytes)
-    && same eqb (take (length (e .first)) (clausesBytes (outputOf (e .options) s ns))) (e .first)
+    && eqb (variablesOf v s (length ns)) (e .variables)
+    && same (same sameLiteral) (outputOf v s ns) (e .output)
+    && sized (e .clauses) (e .literals) (sizeOf (outputOf v s ns))
+    && sized (e .clauses) (e .literals) (trueTotals v s ns)
+    && sized (e .clauses) (e .literals) (totals v s ns)
+    && eqb (length (clausesBytes (outputOf v s ns))) (e .bytes)
+    && same eqb (take (length (e .first)) (clausesBytes (outputOf v s ns))) (e .first)
 
 -- whether an example comes out as expected: its table and its set are accepted, and each definition gives what is written
 abbrev pub holds : Example → Bool
-holds e = accepted (checked (e .table) (e .options)) && holdsUnder e (nodesOf (e .table)) (setBy (e .options) (nodesOf (e .table)) (e .given))
+holds e =
+    let ns = nodesOf (e .table) in
+    accepted (checked (e .table) (e .options)) && holdsUnder e ns (setBy (e .options) ns (e .given))

@@ -27,11 +27,14 @@ output-contents v s ns = gather-contents [] (partsOf clauses v s ns)
 -- every number has its place ..
 pub stands : (ps : List (Part (List Clause))) (k : ℕ) → k < length (contentsOf ps) → Stands ps k (placeIn (countsOf ps) k)
 stands [] k h = absurd (not-suc-le-zero h)
-stands (p ∷ ps) k h = go (ltb k (length (p .content))) refl (stands ps (k - length (p .content)))
+stands (p ∷ ps) k h = go (ltb k (length (p .content))) refl (stands ps rest)
   where
+    rest : ℕ
+    rest = k - length (p .content)
+
     go : (b : Bool) → ltb k (length (p .content)) ≡ b
-        → (k - length (p .content) < length (contentsOf ps) → Stands ps (k - length (p .content)) (placeIn (countsOf ps) (k - length (p .content))))
-        → Stands (p ∷ ps) k (cond b (record { part = 0; number = k }) (further (placeIn (countsOf ps) (k - length (p .content)))))
+        → (rest < length (contentsOf ps) → Stands ps rest (placeIn (countsOf ps) rest))
+        → Stands (p ∷ ps) k (cond b (record { part = 0; number = k }) (further (placeIn (countsOf ps) rest)))
     go true e ih = record { part = omega arith; number = ltb-true k (length (p .content)) e; sum = omega arith }
     go false e ih =
         let l : length (p .content) ≤ k = ltb-false k (length (p .content)) e in
@@ -42,35 +45,41 @@ stands (p ∷ ps) k h = go (ltb k (length (p .content))) refl (stands ps (k - le
 pub stands-only : (ps : List (Part (List Clause))) (k : ℕ) (p : Place) → Stands ps k p → p ≡ placeIn (countsOf ps) k
 stands-only ps k p h = go ps k (p .part) (p .number) (h .part) (h .number) (h .sum)
   where
-    go : (ps : List (Part (List Clause))) (k j m : ℕ) → j < length ps → m < length (contentIn ps j) → startOf (countsOf ps) j + m ≡ k
-        → record { part = j; number = m } ≡ placeIn (countsOf ps) k
+    go : (ps : List (Part (List Clause))) (k j m : ℕ) → j < length ps → m < length (contentIn ps j)
+        → startOf (countsOf ps) j + m ≡ k → record { part = j; number = m } ≡ placeIn (countsOf ps) k
     go [] k j m h g e = absurd (not-suc-le-zero h)
     go (p ∷ ps) k zero m h g e =
         let f : m ≡ k = omega arith in
         rw (lt-ltb k (length (p .content)) (omega arith)) (λ i. record { part = 0; number = f i })
     go (p ∷ ps) k (suc j) m h g e =
-        rw (le-ltb k (length (p .content)) (omega arith)) (ap further (go ps (k - length (p .content)) j m (omega arith) g (omega arith)))
+        let below = go ps (k - length (p .content)) j m (omega arith) g (omega arith) in
+        rw (le-ltb k (length (p .content)) (omega arith)) (ap further below)
 
 -- the clause is the one that stands there
-pub clause-at : (ps : List (Part (List Clause))) (k : ℕ) (p : Place) → Stands ps k p → getD (contentsOf ps) k [] ≡ getD (contentIn ps (p .part)) (p .number) []
+pub clause-at : (ps : List (Part (List Clause))) (k : ℕ) (p : Place) → Stands ps k p
+    → getD (contentsOf ps) k [] ≡ getD (contentIn ps (p .part)) (p .number) []
 clause-at ps k p h = go ps k (p .part) (p .number) (h .part) (h .number) (h .sum)
   where
-    go : (ps : List (Part (List Clause))) (k j m : ℕ) → j < length ps → m < length (contentIn ps j) → startOf (countsOf ps) j + m ≡ k
-        → getD (contentsOf ps) k [] ≡ getD (contentIn ps j) m []
+    go : (ps : List (Part (List Clause))) (k j m : ℕ) → j < length ps → m < length (contentIn ps j)
+        → startOf (countsOf ps) j + m ≡ k → getD (contentsOf ps) k [] ≡ getD (contentIn ps j) m []
     go [] k j m h g e = absurd (not-suc-le-zero h)
     go (p ∷ ps) k zero m h g e =
         let f : k ≡ m = omega arith in
         clause-left (p .content) (contentsOf ps) k (omega arith) ∙ ap (λ (i : ℕ). getD (p .content) i []) f
     go (p ∷ ps) k (suc j) m h g e =
-        clause-right (p .content) (contentsOf ps) k (omega arith) ∙ go ps (k - length (p .content)) j m (omega arith) g (omega arith)
+        clause-right (p .content) (contentsOf ps) k (omega arith)
+        ∙ go ps (k - length (p .content)) j m (omega arith) g (omega arith)
 
 -- of the output
 module _ (v : ℕ) (s : List ℕ) (ns : List Node) (k : ℕ) where
-  abbrev pub place : Place
-  place = placeIn (countsOf (partsOf clauses v s ns)) k
+  abbrev parts : List (Part (List Clause))
+  parts = partsOf clauses v s ns
 
-  pub output-stands : k < length (outputOf v s ns) → Stands (partsOf clauses v s ns) k place
-  output-stands h = stands (partsOf clauses v s ns) k (subst (λ (cs : List Clause). k < length cs) (output-contents v s ns) h)
+  abbrev place : Place
+  place = placeIn (countsOf parts) k
 
-  pub output-clause : k < length (outputOf v s ns) → getD (outputOf v s ns) k [] ≡ getD (contentIn (partsOf clauses v s ns) (place .part)) (place .number) []
-  output-clause h = ap (λ (cs : List Clause). getD cs k []) (output-contents v s ns) ∙ clause-at (partsOf clauses v s ns) k place (output-stands h)
+  pub output-stands : k < length (outputOf v s ns) → Stands parts k place
+  output-stands h = stands parts k (subst (λ (cs : List Clause). k < length cs) (output-contents v s ns) h)
+
+  pub output-clause : k < length (outputOf v s ns) → getD (outputOf v s ns) k [] ≡ getD (contentIn parts (place .part)) (place .number) []
+  output-clause h = ap (λ (cs : List Clause). getD cs k []) (output-contents v s ns) ∙ clause-at parts k place (output-stands h)

@@ -1,4 +1,5 @@
--- The one law: what the five operations keep is kept by every row of every list of nodes, both signs, by every part of the output and by the whole.
+-- The one law: what the five operations keep is kept by every row of every list of nodes, for both signs and every set,
+-- by every part of the output and by the whole. Its instances: totals, ceilings, names and truth.
 -- Assumes nothing.
 use mathlib.Core.Path.{_≡_, refl, _∙_}
 use mathlib.Core.Bool.{Bool, true, false, cond}
@@ -7,7 +8,7 @@ use Prim.Native.Nat.{ℕ, zero, suc, _-_}
 use lib.Dec.{T}
 use lib.ListN.{length, getD}
 use Rattle.laws.proofs.Upward.{Each, none, more, each-at, each-upTo}
-use Rattle.formula.specs.Marks.{markOf, toA, toB}
+use Rattle.formula.specs.Marks.{toA, toB}
 use Rattle.formula.specs.Nodes.{nodeIn}
 use Rattle.formula.specs.Paths.{has}
 use Rattle.formula.specs.declared.mark.Mark.{Mark}
@@ -18,7 +19,7 @@ use Rattle.formula.proofs.Laws.Marks.{doubled-has}
 use Rattle.clausal.specs.Algebra.{Algebra, Row, unitRow, noRow, rowBy}
 use Rattle.clausal.specs.Helpers.{renamed, helperOf}
 use Rattle.clausal.specs.Origins.{Origin, option, helper}
-use Rattle.clausal.specs.Output.{Direction, Part, halvesOf, rootPart, downPart, upPart, definition, definitions, partsOf, gather, wholeOf}
+use Rattle.clausal.specs.Output.{Part, downPart, upPart, definition, definitions, partsOf, gather, wholeOf}
 use Rattle.clausal.specs.Rows.{seen, rowFrom, rowsOf, rowOf}
 
 -- a relation that the five operations keep; units are asked for only at known variables
@@ -38,7 +39,8 @@ pub record Under {C D : Type 0} (Q : C → D → Type 0) (m : Mark) (x : Row C) 
 abbrev pub both : Mark
 both = record { positive = true; negative = true }
 
-module _ {C D : Type 0} (Known : ℕ → Type 0) (A : Algebra C) (B : Algebra D) (Q : C → D → Type 0) (keeps : Keeps Known A B Q) where
+module _ {C D : Type 0} (Known : ℕ → Type 0) (A : Algebra C) (B : Algebra D) (Q : C → D → Type 0)
+    (keeps : Keeps Known A B Q) where
   pub under-unit : (m : Mark) (x : ℕ) → Known x → Under Q m (unitRow A x) (unitRow B x)
   under-unit m x k = record { P = λ t. keeps .unit true x k; N = λ t. keeps .unit false x k }
 
@@ -48,21 +50,21 @@ module _ {C D : Type 0} (Known : ℕ → Type 0) (A : Algebra C) (B : Algebra D)
   -- the rule of a node, at a mark: of its children only what the mark passes on is asked
   pub under-by : (k : Kind) (n : ℕ) (m : Mark) (x y : Row C) (z w : Row D) → (k ≡ Symbol → Known n)
       → Under Q (toA k m) x z → Under Q (toB k m) y w → Under Q m (rowBy A k n x y) (rowBy B k n z w)
-  under-by False n m x y z w known p q = record { P = λ t. search (keeps .none, keeps .empty); N = λ t. search (keeps .none, keeps .empty) }
-  under-by True n m x y z w known p q = record { P = λ t. search (keeps .none, keeps .empty); N = λ t. search (keeps .none, keeps .empty) }
+  under-by False n m x y z w known p q = record { P = λ t. search; N = λ t. search }
+  under-by True n m x y z w known p q = record { P = λ t. search; N = λ t. search }
   under-by Symbol n m x y z w known p q = under-unit m n (known refl)
-  under-by Not n m x y z w known p q = record { P = λ t. search (p .P, p .N); N = λ t. search (p .P, p .N) }
+  under-by Not n m x y z w known p q = record { P = p .N; N = p .P }
   under-by And n m x y z w known p q = record {
-    P = λ t. search (keeps .cat, keeps .join, p .P, p .N, q .P, q .N);
-    N = λ t. search (keeps .cat, keeps .join, p .P, p .N, q .P, q .N);
+    P = λ t. keeps .cat _ _ _ _ (p .P t) (q .P t);
+    N = λ t. keeps .join _ _ _ _ (p .N t) (q .N t);
   }
   under-by Or n m x y z w known p q = record {
-    P = λ t. search (keeps .cat, keeps .join, p .P, p .N, q .P, q .N);
-    N = λ t. search (keeps .cat, keeps .join, p .P, p .N, q .P, q .N);
+    P = λ t. keeps .join _ _ _ _ (p .P t) (q .P t);
+    N = λ t. keeps .cat _ _ _ _ (p .N t) (q .N t);
   }
   under-by Implies n m x y z w known p q = record {
-    P = λ t. search (keeps .cat, keeps .join, p .P, p .N, q .P, q .N);
-    N = λ t. search (keeps .cat, keeps .join, p .P, p .N, q .P, q .N);
+    P = λ t. keeps .join _ _ _ _ (p .N t) (q .P t);
+    N = λ t. keeps .cat _ _ _ _ (p .P t) (q .N t);
   }
   under-by Equivalent n m x y z w known p q = record { P = λ t. all true t .P tt; N = λ t. all false t .N tt }
     where
@@ -83,49 +85,65 @@ pub record Parts {C D : Type 0} (Q : C → D → Type 0) (p : Part C) (q : Part 
   pub direction : p .direction ≡ q .direction
   pub content : Q (p .content) (q .content)
 
-each-append : {A B : Type 0} {Q : A → B → Type 0} {x y : List A} {z w : List B} → Each Q x z → Each Q y w → Each Q (x ++ y) (z ++ w)
+each-append : {A B : Type 0} {Q : A → B → Type 0} {x y : List A} {z w : List B} → Each Q x z → Each Q y w
+    → Each Q (x ++ y) (z ++ w)
 each-append none f = f
 each-append (more q e) f = more q (each-append e f)
 
-each-cond : {A B : Type 0} {Q : A → B → Type 0} (b : Bool) {x : List A} {z : List B} → (b ≡ true → Each Q x z) → Each Q (cond b x []) (cond b z [])
-each-cond true f = f refl
-each-cond false f = none
-
-module _ {C D : Type 0} (A : Algebra C) (B : Algebra D) (Q : C → D → Type 0) (v : ℕ) (s : List ℕ) (ns : List Node) (keeps : Keeps (Origin v s ns) A B Q) where
+module _ {C D : Type 0} (A : Algebra C) (B : Algebra D) (Q : C → D → Type 0) (v : ℕ) (s : List ℕ) (ns : List Node)
+    (keeps : Keeps (Origin v s ns) A B Q) where
   related-seen : (i : ℕ) (x : Row C) (y : Row D) → Under Q both x y → Under Q both (seen A v s i x) (seen B v s i y)
   related-seen i x y u = go (renamed s i) refl
     where
-      go : (b : Bool) → renamed s i ≡ b → Under Q both (cond b (unitRow A (helperOf v s i)) x) (cond b (unitRow B (helperOf v s i)) y)
+      go : (b : Bool) → renamed s i ≡ b
+          → Under Q both (cond b (unitRow A (helperOf v s i)) x) (cond b (unitRow B (helperOf v s i)) y)
       go true e = under-unit (Origin v s ns) A B Q keeps both (helperOf v s i) (helper i e)
       go false e = u
+
+  related-at : {xs : List (Row C)} {ys : List (Row D)} → Each (Under Q both) xs ys → (i : ℕ)
+      → Under Q both (getD xs i (noRow A)) (getD ys i (noRow B))
+  related-at e i = each-at (Under Q both) (noRow A) (noRow B) (under-none (Origin v s ns) A B Q keeps both) e i
 
   related-rows : Each (Under Q both) (rowsOf A v s ns) (rowsOf B v s ns)
   related-rows = each-upTo (Under Q both) _ _ step (length ns)
     where
-      step : (xs : List (Row C)) (ys : List (Row D)) (i : ℕ) → Each (Under Q both) xs ys → Under Q both (rowFrom A v s ns xs i) (rowFrom B v s ns ys i)
+      step : (xs : List (Row C)) (ys : List (Row D)) (i : ℕ) → Each (Under Q both) xs ys
+          → Under Q both (rowFrom A v s ns xs i) (rowFrom B v s ns ys i)
       step xs ys i e =
-          under-by (Origin v s ns) A B Q keeps (nodeIn ns i .kind) (nodeIn ns i .a) both _ _ _ _ (option i) (child (nodeIn ns i .a)) (child (nodeIn ns i .b))
+          let node : Node = nodeIn ns i in
+          under-by (Origin v s ns) A B Q keeps (node .kind) (node .a) both _ _ _ _ (option i) (child (node .a)) (child (node .b))
         where
-          child : {m : Mark} (j : ℕ) → Under Q m (seen A v s j (getD xs j (noRow A))) (seen B v s j (getD ys j (noRow B)))
+          child : {m : Mark} (j : ℕ)
+              → Under Q m (seen A v s j (getD xs j (noRow A))) (seen B v s j (getD ys j (noRow B)))
           child j =
-              let u = related-seen j _ _ (each-at (Under Q both) (noRow A) (noRow B) (under-none (Origin v s ns) A B Q keeps both) e j) in
+              let u = related-seen j _ _ (related-at e j) in
               record { P = λ t. u .P tt; N = λ t. u .N tt }
 
   -- every row, both signs
   pub related-row : (i : ℕ) → Under Q both (rowOf A v s ns i) (rowOf B v s ns i)
-  related-row i = each-at (Under Q both) (noRow A) (noRow B) (under-none (Origin v s ns) A B Q keeps both) related-rows i
+  related-row i = related-at related-rows i
+
+  related-down : (i : ℕ) → renamed s i ≡ true → Parts Q (downPart A v s ns i) (downPart B v s ns i)
+  related-down i e =
+      let row = related-row i .P tt in
+      record { origin = refl; helper = refl; direction = refl; content = search (keeps .join, keeps .unit, helper) }
+
+  related-up : (i : ℕ) → renamed s i ≡ true → Parts Q (upPart A v s ns i) (upPart B v s ns i)
+  related-up i e =
+      let row = related-row i .N tt in
+      record { origin = refl; helper = refl; direction = refl; content = search (keeps .join, keeps .unit, helper) }
+
+  -- two parts, each there under a condition of its own, and both under one
+  each-two : (b d u : Bool) (p r : Part C) (q t : Part D) → (b ≡ true → Parts Q p q) → (b ≡ true → Parts Q r t)
+      → Each (Parts Q) (cond b (cond d (p ∷ []) [] ++ cond u (r ∷ []) []) []) (cond b (cond d (q ∷ []) [] ++ cond u (t ∷ []) []) [])
+  each-two false d u p r q t f g = none
+  each-two true true true p r q t f g = more (f refl) (more (g refl) none)
+  each-two true true false p r q t f g = more (f refl) none
+  each-two true false true p r q t f g = more (g refl) none
+  each-two true false false p r q t f g = none
 
   related-definition : (i : ℕ) → Each (Parts Q) (definition A v s ns i) (definition B v s ns i)
-  related-definition i = each-cond (renamed s i) λ e.
-      each-append
-      (each-cond (halvesOf (markOf ns i) .down) λ t. more (half (keeps .join _ _ _ _ (unit false e) (related-row i .P tt))) none)
-      (each-cond (halvesOf (markOf ns i) .up) λ t. more (half (keeps .join _ _ _ _ (related-row i .N tt) (unit true e))) none)
-    where
-      unit : (plain : Bool) → renamed s i ≡ true → Q (A .unit plain (helperOf v s i)) (B .unit plain (helperOf v s i))
-      unit plain e = keeps .unit plain (helperOf v s i) (helper i e)
-
-      half : {d : Direction} {x : C} {y : D} → Q x y → Parts Q (record { origin = i; helper = helperOf v s i; direction = d; content = x }) (record { origin = i; helper = helperOf v s i; direction = d; content = y })
-      half q = record { origin = refl; helper = refl; direction = refl; content = q }
+  related-definition i = search (each-two, related-down, related-up)
 
   related-definitions : (n : ℕ) → Each (Parts Q) (definitions A v s ns n) (definitions B v s ns n)
   unfolding definitions
@@ -134,9 +152,12 @@ module _ {C D : Type 0} (A : Algebra C) (B : Algebra D) (Q : C → D → Type 0)
 
   -- every part
   pub related-parts : Each (Parts Q) (partsOf A v s ns) (partsOf B v s ns)
-  related-parts = more (record { origin = refl; helper = refl; direction = refl; content = related-row (length ns - 1) .P tt }) (related-definitions (length ns))
+  related-parts =
+      let root = related-row (length ns - 1) .P tt in
+      more (record { origin = refl; helper = refl; direction = refl; content = root }) (related-definitions (length ns))
 
-  related-gather : (x : C) (y : D) {ps : List (Part C)} {qs : List (Part D)} → Q x y → Each (Parts Q) ps qs → Q (gather A x ps) (gather B y qs)
+  related-gather : (x : C) (y : D) {ps : List (Part C)} {qs : List (Part D)} → Q x y → Each (Parts Q) ps qs
+      → Q (gather A x ps) (gather B y qs)
   related-gather x y q none = q
   related-gather x y q (more p e) = related-gather _ _ (keeps .cat _ _ _ _ q (p .content)) e
 
@@ -146,8 +167,11 @@ module _ {C D : Type 0} (A : Algebra C) (B : Algebra D) (Q : C → D → Type 0)
 
 -- a function that the five operations keep, as a relation
 pub keeps-of-map : {C D : Type 0} (Known : ℕ → Type 0) (A : Algebra C) (B : Algebra D) (h : C → D)
-    → h (A .none) ≡ B .none → h (A .empty) ≡ B .empty → ((plain : Bool) (x : ℕ) → h (A .unit plain x) ≡ B .unit plain x)
-    → ((x y : C) → h (A .cat x y) ≡ B .cat (h x) (h y)) → ((x y : C) → h (A .join x y) ≡ B .join (h x) (h y))
+    → h (A .none) ≡ B .none
+    → h (A .empty) ≡ B .empty
+    → ((plain : Bool) (x : ℕ) → h (A .unit plain x) ≡ B .unit plain x)
+    → ((x y : C) → h (A .cat x y) ≡ B .cat (h x) (h y))
+    → ((x y : C) → h (A .join x y) ≡ B .join (h x) (h y))
     → Keeps Known A B (λ x y. h x ≡ y)
 keeps-of-map Known A B h nones empties units cats joins = record {
   none = nones;

@@ -1,4 +1,4 @@
--- The row equation: a node's row is the rule at its children's rows, as they are seen; and what was made first stays.
+-- The row equation: a node's row is the rule at its children's rows, as they are seen; and the rows made first stay.
 -- Assumes nothing.
 use mathlib.Core.Path.{_≡_, refl, sym, ap, _∙_, subst}
 use mathlib.Core.Bool.{Bool, true, false}
@@ -22,7 +22,7 @@ use Rattle.clausal.specs.Algebra.{Algebra, Row, noRow, rowBy}
 use Rattle.clausal.specs.Rows.{seen, rowFrom, rowsOf, rowOf}
 use Rattle.clausal.proofs.Related.{Keeps, Under, both, under-by}
 
--- what a node passes on goes to children below it: put on a list of no marks, no longer than the node's place, it shows there
+-- what a node passes on goes to children below it: put on a list of no marks, as long as its place, it would show nowhere else
 module _ (k : ℕ) (n : Node) (m : Mark) (b : Below k n) where
   given : Passed k n m (replicate k unmarked) (passOn n m (replicate k unmarked))
   given = passed k n m (replicate k unmarked) (omega (arith, length-replicate k unmarked)) b
@@ -33,7 +33,8 @@ module _ (k : ℕ) (n : Node) (m : Mark) (b : Below k n) where
       go : Dec (x < k) → x < k
       go (yes h) = h
       go (no h) =
-          let none : markIn (replicate k unmarked) x ≡ unmarked = List·getD-eq-default (replicate k unmarked) unmarked (omega (arith, length-replicate k unmarked)) in
+          let past : length (replicate k unmarked) ≤ x = omega (arith, length-replicate k unmarked) in
+          let none = List·getD-eq-default (replicate k unmarked) unmarked past in
           absurd (unmarked-has z (subst (λ (y : Mark). T (has z y)) (given .stays x (omega arith) ∙ none) t))
 
   pub a-below : (z : Bool) → T (has z (toA (n .kind) m)) → n .a < k
@@ -41,6 +42,10 @@ module _ (k : ℕ) (n : Node) (m : Mark) (b : Below k n) where
 
   pub b-below : (z : Bool) → T (has z (toB (n .kind) m)) → n .b < k
   b-below z t = below-of z (n .b) (given .gives-b z t)
+
+-- the rule of a node at rows of its children
+abbrev pub ruleAt : {C : Type 0} → Algebra C → Node → (ℕ → Row C) → Row C
+ruleAt A n child = rowBy A (n .kind) (n .a) (child (n .a)) (child (n .b))
 
 module _ {C : Type 0} (A : Algebra C) where
   same-keeps : Keeps (λ x. Unit {0}) A A _≡_
@@ -53,40 +58,43 @@ module _ {C : Type 0} (A : Algebra C) where
   }
 
   under-same : (m : Mark) (x y : Row C) → ((z : Bool) → T (has z m) → x ≡ y) → Under _≡_ m x y
-  under-same m x y e = record { P = λ t. ap (λ (r : Row C). r .P) (e true t); N = λ t. ap (λ (r : Row C). r .N) (e false t) }
+  under-same m x y e = record {
+    P = λ t. ap (λ (r : Row C). r .P) (e true t);
+    N = λ t. ap (λ (r : Row C). r .N) (e false t);
+  }
 
-  -- the rule of a node looks only at children below it
-  pub same-by : (i : ℕ) (n : Node) → Below i n → (x y z w : Row C) → (n .a < i → x ≡ z) → (n .b < i → y ≡ w)
-      → rowBy A (n .kind) (n .a) x y ≡ rowBy A (n .kind) (n .a) z w
-  same-by i n b x y z w p q =
-      let u : Under _≡_ both (rowBy A (n .kind) (n .a) x y) (rowBy A (n .kind) (n .a) z w) =
-      under-by (λ x. Unit {0}) A A _≡_ same-keeps (n .kind) (n .a) both x y z w (λ e. tt)
-      (under-same _ x z (λ sign t. p (a-below i n both b sign t)))
-      (under-same _ y w (λ sign t. q (b-below i n both b sign t))) in
+  -- it looks only at children below the node
+  pub rule-same : (i : ℕ) (n : Node) → Below i n → (f g : ℕ → Row C) → ((j : ℕ) → j < i → f j ≡ g j) → ruleAt A n f ≡ ruleAt A n g
+  rule-same i n b f g e =
+      let u : Under _≡_ both (ruleAt A n f) (ruleAt A n g) =
+      under-by (λ x. Unit {0}) A A _≡_ same-keeps (n .kind) (n .a) both _ _ _ _ (λ k. tt)
+      (under-same _ _ _ (λ z t. e (n .a) (a-below i n both b z t)))
+      (under-same _ _ _ (λ z t. e (n .b) (b-below i n both b z t))) in
       λ j. record { P = u .P tt j; N = u .N tt j }
 
 module _ {C : Type 0} (A : Algebra C) (v : ℕ) (s : List ℕ) (ns : List Node) where
   pub length-rows : length (rowsOf A v s ns) ≡ length ns
   length-rows = length-upTo (rowFrom A v s ns) (length ns)
 
+  pub row-past : (i : ℕ) → length ns ≤ i → rowOf A v s ns i ≡ noRow A
+  row-past i h = List·getD-eq-default (rowsOf A v s ns) (noRow A) (omega (arith, length-rows))
+
   -- the rows of the nodes below i
   pub take-rows : (i : ℕ) → i ≤ length ns → take i (rowsOf A v s ns) ≡ upTo (rowFrom A v s ns) i
   take-rows i h = take-upTo (rowFrom A v s ns) i (length ns) h
 
   pub getD-rows : (i j : ℕ) → i ≤ length ns → j < i → getD (upTo (rowFrom A v s ns) i) j (noRow A) ≡ rowOf A v s ns j
-  getD-rows i j h g = ap (λ (l : List (Row C)). getD l j (noRow A)) (sym (take-rows i h)) ∙ getD-take i (rowsOf A v s ns) j (noRow A) g
+  getD-rows i j h g =
+      ap (λ (l : List (Row C)). getD l j (noRow A)) (sym (take-rows i h))
+      ∙ getD-take i (rowsOf A v s ns) j (noRow A) g
 
-  pub row-past : (i : ℕ) → length ns ≤ i → rowOf A v s ns i ≡ noRow A
-  row-past i h = List·getD-eq-default (rowsOf A v s ns) (noRow A) (omega (arith, length-rows))
-
-  -- a row is made of the rows before it
+  -- a row is made of the rows before it ..
   pub row-from : (i : ℕ) → i < length ns → rowOf A v s ns i ≡ rowFrom A v s ns (upTo (rowFrom A v s ns) i) i
   row-from i h = getD-upTo (rowFrom A v s ns) (noRow A) i (length ns) h
 
-  -- .. and so of its children's rows, wherever they stand
-  pub row-at : (i : ℕ) → i < length ns → Below i (nodeIn ns i)
-      → rowOf A v s ns i ≡ rowBy A (nodeIn ns i .kind) (nodeIn ns i .a) (seen A v s (nodeIn ns i .a) (rowOf A v s ns (nodeIn ns i .a))) (seen A v s (nodeIn ns i .b) (rowOf A v s ns (nodeIn ns i .b)))
-  row-at i h b = row-from i h ∙ same-by A i (nodeIn ns i) b _ _ _ _ (child (nodeIn ns i .a)) (child (nodeIn ns i .b))
-    where
-      child : (j : ℕ) → j < i → seen A v s j (getD (upTo (rowFrom A v s ns) i) j (noRow A)) ≡ seen A v s j (rowOf A v s ns j)
-      child j g = ap (seen A v s j) (getD-rows i j (omega arith) g)
+  -- .. and so of its children's rows, as they are seen
+  abbrev pub seenOf : ℕ → Row C
+  seenOf j = seen A v s j (rowOf A v s ns j)
+
+  pub row-at : (i : ℕ) → i < length ns → Below i (nodeIn ns i) → rowOf A v s ns i ≡ ruleAt A (nodeIn ns i) seenOf
+  row-at i h b = row-from i h ∙ rule-same A i (nodeIn ns i) b _ _ (λ j g. ap (seen A v s j) (getD-rows i j (omega arith) g))

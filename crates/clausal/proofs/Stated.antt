@@ -16,7 +16,7 @@ use Rattle.formula.specs.Nodes.{nodesOf}
 use Rattle.formula.specs.Sets.{setChecked}
 use Rattle.clausal.specs.Helpers.{renamedBelow}
 use Rattle.clausal.specs.Output.{definitions, outputOf}
-use Rattle.clausal.specs.Totals.{Size, trueTotals, totals}
+use Rattle.clausal.specs.Totals.{trueTotals, totals}
 use Rattle.clausal.proofs.Notation.{all, accepted, sized}
 use Rattle.clausal.proofs.Notation.{false-node, true-node, symbol, not-of, and-of, or-of, equivalent-of}
 

@@ -1,16 +1,16 @@
--- Totals are those of the clause lists; and what the totals as reported say of them: the ceilings, and refusals 5 and 6.
+-- Totals are those of the clause lists; and what the totals as reported say of the lists: the ceilings, refusals 5 and 6.
 -- Assumes nothing.
-use mathlib.Core.Path.{_≡_, refl, sym, ap, _∙_, subst}
+use mathlib.Core.Path.{_≡_, refl, sym, ap, _∙_}
 use mathlib.Core.Logic.{_↔_}
 use mathlib.Core.List.{List, [], _∷_, _++_, map}
-use Prim.Native.Nat.{ℕ, zero, suc, _+_, _*_, _≤_, _<_}
-use native.Mathlib.Nat.{zero-mul, suc-mul}
+use Prim.Native.Nat.{ℕ, _+_, _*_, _≤_, _<_}
+use native.Mathlib.Nat.{zero-mul}
 use native.Mathlib.Omega.{arith}
 use lib.Dec.{lit<}
 use lib.ListN.{length, length-append, length-map}
 use Rattle.laws.specs.Caps.{cap}
 use Rattle.formula.specs.declared.node.Node.{Node}
-use Rattle.clausal.specs.Algebra.{Row, joinAll, clauses}
+use Rattle.clausal.specs.Algebra.{joinAll, clauses}
 use Rattle.clausal.specs.Literals.{Clause}
 use Rattle.clausal.specs.Output.{outputOf}
 use Rattle.clausal.specs.Rows.{rowOf}
@@ -36,7 +36,8 @@ literals-one : (c : Clause) (ds : List Clause) → literalsIn (joinOne c ds) ≡
 literals-one c [] = omega arith
 literals-one c (d ∷ ds) = omega (arith, length-append c d, literals-one c ds)
 
-literals-join : (cs ds : List Clause) → literalsIn (joinAll cs ds) ≡ literalsIn cs * length ds + length cs * literalsIn ds
+literals-join : (cs ds : List Clause)
+    → literalsIn (joinAll cs ds) ≡ literalsIn cs * length ds + length cs * literalsIn ds
 literals-join [] ds = omega arith
 literals-join (c ∷ cs) ds =
     literals-append (joinOne c ds) (joinAll cs ds)
@@ -49,7 +50,8 @@ sizes-keeps Known = keeps-of-map Known clauses sizes sizeOf refl refl (λ plain 
 
 module _ (v : ℕ) (s : List ℕ) (ns : List Node) where
   -- P(n) and N(n) of every node have the true totals
-  pub size-row : (i : ℕ) → record { P = sizeOf (rowOf clauses v s ns i .P); N = sizeOf (rowOf clauses v s ns i .N) } ≡ rowOf sizes v s ns i
+  pub size-row : (i : ℕ)
+      → record { P = sizeOf (rowOf clauses v s ns i .P); N = sizeOf (rowOf clauses v s ns i .N) } ≡ rowOf sizes v s ns i
   size-row i =
       let u = related-row clauses sizes (λ cs x. sizeOf cs ≡ x) v s ns (sizes-keeps _) i in
       λ j. record { P = u .P tt j; N = u .N tt j }
@@ -70,17 +72,23 @@ module _ (v : ℕ) (s : List ℕ) (ns : List Node) where
   clauses-read = ap (λ (x : Size). x .clauses) totals-output
 
   -- "A literal total is stated only where its clause total is below 65,535 .."
-  pub literals-stated : length (outputOf v s ns) < clauseCeiling → totals v s ns .literals ≡ cap literalCeiling (literalsIn (outputOf v s ns))
-  literals-stated h = ap (λ (x : Size). x .literals) (totals-output ∙ read-under clauseCeiling literalCeiling (lit< tt) (lit< tt) (sizeOf (outputOf v s ns)) h)
+  pub literals-stated : length (outputOf v s ns) < clauseCeiling
+      → totals v s ns .literals ≡ cap literalCeiling (literalsIn (outputOf v s ns))
+  literals-stated h =
+      let read = read-under clauseCeiling literalCeiling (lit< tt) (lit< tt) (sizeOf (outputOf v s ns)) h in
+      ap (λ (x : Size). x .literals) (totals-output ∙ read)
 
   -- ".. otherwise it is reported as 1,000,000"
   pub literals-not-stated : clauseCeiling ≤ length (outputOf v s ns) → totals v s ns .literals ≡ literalCeiling
-  literals-not-stated h = ap (λ (x : Size). x .literals) (totals-output ∙ read-over clauseCeiling literalCeiling (lit< tt) (lit< tt) (sizeOf (outputOf v s ns)) h)
+  literals-not-stated h =
+      let read = read-over clauseCeiling literalCeiling (lit< tt) (lit< tt) (sizeOf (outputOf v s ns)) h in
+      ap (λ (x : Size). x .literals) (totals-output ∙ read)
 
   -- refusal 5 is decided by the true total
   pub clauses-refused : (clauseCeiling ≤ length (outputOf v s ns)) ↔ (totals v s ns .clauses ≡ clauseCeiling)
   clauses-refused = (λ h. clauses-read ∙ omega arith, λ e. omega (arith, clauses-read))
 
   -- and refusal 6, where 5 is not given
-  pub literals-refused : length (outputOf v s ns) < clauseCeiling → (literalCeiling ≤ literalsIn (outputOf v s ns)) ↔ (totals v s ns .literals ≡ literalCeiling)
+  pub literals-refused : length (outputOf v s ns) < clauseCeiling
+      → (literalCeiling ≤ literalsIn (outputOf v s ns)) ↔ (totals v s ns .literals ≡ literalCeiling)
   literals-refused h = (λ g. literals-stated h ∙ omega arith, λ e. omega (arith, literals-stated h))

@@ -1,9 +1,10 @@
--- Truth in a row of truth values: a clause list is satisfied where the algebra of truths says so; and the rule of a node, at that algebra, is the truth of the node.
+-- Truth in a row of truth values: a clause list is satisfied where the algebra of truths says so, and the rule of a node at
+-- that algebra is the node's truth.
 -- Assumes nothing.
 use mathlib.Core.Path.{_≡_, refl, sym, ap, _∙_}
 use mathlib.Core.Bool.{Bool, true, false, not, _&&_, _||_, Bool·beq, and-assoc, or-assoc, or-false, and-true, or-true, or-and-distrib-left, or-and-distrib-right}
 use mathlib.Core.List.{List, [], _∷_, _++_, map}
-use Prim.Native.Nat.{ℕ, _≤_, _<_}
+use Prim.Native.Nat.{ℕ, _<_}
 use native.Mathlib.Omega.{arith}
 use lib.ListN.{length, getD}
 use lib.Seq.{getD-take}
@@ -17,25 +18,30 @@ use Rattle.formula.specs.declared.node.Kind.the-variants.{False, True, Symbol, 
 use Rattle.formula.specs.declared.node.Node.{Node}
 use Rattle.formula.proofs.Laws.WellFormed.{Below}
 use Rattle.clausal.specs.Algebra.{Row, rowBy, joinAll, clauses}
-use Rattle.clausal.specs.Literals.{Literal, Clause}
+use Rattle.clausal.specs.Literals.{Clause}
 use Rattle.clausal.specs.Output.{wholeOf, outputOf}
 use Rattle.clausal.specs.Satisfies.{literalTrue, clauseTrue, satisfies, truths}
 use Rattle.clausal.proofs.Related.{Keeps, keeps-of-map, related-whole}
-use Rattle.clausal.proofs.Rows.{same-by}
+use Rattle.clausal.proofs.Rows.{ruleAt, rule-same}
 
 module _ (ρ : ℕ → Bool) where
   clause-append : (c d : Clause) → clauseTrue ρ (c ++ d) ≡ (clauseTrue ρ c || clauseTrue ρ d)
   clause-append [] d = refl
-  clause-append (l ∷ c) d = ap (λ (b : Bool). literalTrue ρ l || b) (clause-append c d) ∙ sym (or-assoc (literalTrue ρ l) (clauseTrue ρ c) (clauseTrue ρ d))
+  clause-append (l ∷ c) d =
+      ap (λ (b : Bool). literalTrue ρ l || b) (clause-append c d)
+      ∙ sym (or-assoc (literalTrue ρ l) (clauseTrue ρ c) (clauseTrue ρ d))
 
   satisfies-append : (cs ds : List Clause) → satisfies ρ (cs ++ ds) ≡ (satisfies ρ cs && satisfies ρ ds)
   satisfies-append [] ds = refl
-  satisfies-append (c ∷ cs) ds = ap (λ (b : Bool). clauseTrue ρ c && b) (satisfies-append cs ds) ∙ sym (and-assoc (clauseTrue ρ c) (satisfies ρ cs) (satisfies ρ ds))
+  satisfies-append (c ∷ cs) ds =
+      ap (λ (b : Bool). clauseTrue ρ c && b) (satisfies-append cs ds)
+      ∙ sym (and-assoc (clauseTrue ρ c) (satisfies ρ cs) (satisfies ρ ds))
 
   satisfies-one : (c : Clause) (ds : List Clause) → satisfies ρ (map (λ d. c ++ d) ds) ≡ (clauseTrue ρ c || satisfies ρ ds)
   satisfies-one c [] = sym (or-true (clauseTrue ρ c))
   satisfies-one c (d ∷ ds) =
-      (λ i. clause-append c d i && satisfies-one c ds i) ∙ sym (or-and-distrib-left (clauseTrue ρ c) (clauseTrue ρ d) (satisfies ρ ds))
+      (λ i. clause-append c d i && satisfies-one c ds i)
+      ∙ sym (or-and-distrib-left (clauseTrue ρ c) (clauseTrue ρ d) (satisfies ρ ds))
 
   satisfies-join : (cs ds : List Clause) → satisfies ρ (joinAll cs ds) ≡ (satisfies ρ cs || satisfies ρ ds)
   satisfies-join [] ds = refl
@@ -45,7 +51,9 @@ module _ (ρ : ℕ → Bool) where
       ∙ sym (or-and-distrib-right (clauseTrue ρ c) (satisfies ρ cs) (satisfies ρ ds))
 
   pub satisfies-keeps : (Known : ℕ → Type 0) → Keeps Known clauses (truths ρ) (λ cs b. satisfies ρ cs ≡ b)
-  satisfies-keeps Known = keeps-of-map Known clauses (truths ρ) (satisfies ρ) refl refl (λ plain x. and-true _ ∙ or-false _) satisfies-append satisfies-join
+  satisfies-keeps Known =
+      keeps-of-map Known clauses (truths ρ) (satisfies ρ) refl refl (λ plain x. and-true _ ∙ or-false _)
+      satisfies-append satisfies-join
 
   -- a row satisfies the output where the output, collected as truth, is true
   pub satisfies-output : (v : ℕ) (s : List ℕ) (ns : List Node) → satisfies ρ (outputOf v s ns) ≡ wholeOf (truths ρ) v s ns
@@ -61,7 +69,8 @@ signed-unit false = refl
 
 module _ (ρ : ℕ → Bool) where
   -- the rule of a node, at truth values, is its truth
-  pub truth-by : (k : Kind) (n : ℕ) (x y : Bool) → known k ≡ true → rowBy (truths ρ) k n (signed x) (signed y) ≡ signed (truthBy k (ρ n) x y)
+  truth-by : (k : Kind) (n : ℕ) (x y : Bool) → known k ≡ true
+      → rowBy (truths ρ) k n (signed x) (signed y) ≡ signed (truthBy k (ρ n) x y)
   truth-by False n x y e = refl
   truth-by True n x y e = refl
   truth-by Symbol n x y e = signed-unit (ρ n)
@@ -86,8 +95,8 @@ module _ (ρ : ℕ → Bool) where
         ∙ getD-take i (truthsOf ρ ns) j false g
 
     -- a node's truth is the rule at its children's truths
-    pub truth-at : signed (truthOf ρ ns i) ≡ rowBy (truths ρ) (nodeIn ns i .kind) (nodeIn ns i .a) (signed (truthOf ρ ns (nodeIn ns i .a))) (signed (truthOf ρ ns (nodeIn ns i .b)))
+    pub truth-at : signed (truthOf ρ ns i) ≡ ruleAt (truths ρ) (nodeIn ns i) (λ j. signed (truthOf ρ ns j))
     truth-at =
         ap signed (getD-upTo (truthFrom ρ ns) false i (length ns) h)
         ∙ sym (truth-by (nodeIn ns i .kind) (nodeIn ns i .a) _ _ k)
-        ∙ same-by (truths ρ) i (nodeIn ns i) b _ _ _ _ (λ g. ap signed (before (nodeIn ns i .a) g)) (λ g. ap signed (before (nodeIn ns i .b) g))
+        ∙ rule-same (truths ρ) i (nodeIn ns i) b (λ j. signed (getD (upTo (truthFrom ρ ns) i) j false)) _ (λ j g. ap signed (before j g))

@@ -8,7 +8,7 @@ use Rattle.formula.specs.Nodes.{nodeIn}
 use Rattle.formula.specs.declared.node.Kind.the-variants.{Symbol}
 use Rattle.formula.specs.declared.node.Node.{Node}
 use Rattle.clausal.specs.Helpers.{renamed, helperOf}
-use Rattle.clausal.specs.Literals.{Literal, Clause}
+use Rattle.clausal.specs.Literals.{Clause}
 
 -- a variable is an option, the symbol of a node of the table; or it is the helper of a renamed node; and nothing else
 pub data Origin (v : ℕ) (s : List ℕ) (ns : List Node) : ℕ → Type 0 where

@@ -32,13 +32,18 @@ impl<'a> Fields<'a> {
     pub fn input(&mut self) -> Result<Vec<u8>, Wrong> {
         match self.word()? {
             "-" | "=" => Ok(vec![]),
-            word => from_hex(word).ok_or_else(|| "a lent input is not lower-case hex".to_string()),
+            word => from_parts(word),
         }
     }
 
     /// An answer part as it is before the call.
     pub fn answer_part(&mut self) -> Result<Vec<u8>, Wrong> {
         self.lent(37, 11)
+    }
+
+    /// A lent output other than the answer part, as it is before the call.
+    pub fn output(&mut self) -> Result<Vec<u8>, Wrong> {
+        self.lent(91, 5)
     }
 
     /// Bytes whose byte i is `factor` times i plus `first`.
@@ -66,6 +71,21 @@ fn from_decimal(word: &str) -> Result<u32, Wrong> {
         word.bytes().all(|byte| byte.is_ascii_digit()) && (word == "0" || !word.starts_with('0'));
     let number = if plain { word.parse().ok() } else { None };
     number.ok_or_else(|| format!("not a number: {word}"))
+}
+
+/// Parts, each of them hex, or hex and how often it is repeated.
+fn from_parts(word: &str) -> Result<Vec<u8>, Wrong> {
+    let hex = |word| from_hex(word).ok_or_else(|| "a lent input is not lower-case hex".to_string());
+    let mut bytes = vec![];
+    for part in word.split('+') {
+        match part.split_once('*') {
+            None => bytes.extend(hex(part)?),
+            Some((repeated, count)) => {
+                bytes.extend(hex(repeated)?.repeat(from_decimal(count)? as usize))
+            }
+        }
+    }
+    Ok(bytes)
 }
 
 fn from_hex(word: &str) -> Option<Vec<u8>> {
@@ -125,6 +145,18 @@ mod tests {
     }
 
     #[test]
+    fn inputs_may_be_written_in_parts() {
+        assert_eq!(
+            Fields::new("00+01ff*2+02").input(),
+            Ok(vec![0, 1, 255, 1, 255, 2])
+        );
+        assert_eq!(Fields::new("07*0").input(), Ok(vec![]));
+        for word in ["+", "00+", "*2", "00*", "00*02", "00*2*2", "00+-", "="] {
+            assert_eq!(Fields::new(word).input().is_err(), word != "=", "{word}");
+        }
+    }
+
+    #[test]
     fn an_answer_part_is_filled_before_the_call() {
         assert_eq!(
             Fields::new("8").answer_part(),
@@ -133,6 +165,11 @@ mod tests {
         assert_eq!(Fields::new("0").answer_part(), Ok(vec![]));
         assert_eq!(Fields::new("-").answer_part(), Ok(vec![]));
         assert!(Fields::new("=").answer_part().is_err());
+    }
+
+    #[test]
+    fn an_output_is_filled_in_another_way() {
+        assert_eq!(Fields::new("4").output(), Ok(vec![5, 96, 187, 22]));
     }
 
     #[test]

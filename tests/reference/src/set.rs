@@ -15,11 +15,17 @@ pub fn may_be_renamed(nodes: &[Node]) -> Vec<bool> {
     nodes.iter().enumerate().map(may).collect()
 }
 
-/// For each node, whether the set renames it. The refusal is 4.
-pub fn check(nodes: &[Node], set: &[u8]) -> Result<Vec<bool>, Refusal> {
-    if set.len() != nodes.len() {
+/// A set, or a buffer for one, has one byte a node. The refusal is 4.
+pub fn check_length(nodes: &[Node], length: usize) -> Result<(), Refusal> {
+    if length != nodes.len() {
         return Err(Refusal::at(4, nodes.len()));
     }
+    Ok(())
+}
+
+/// For each node, whether the set renames it. The refusal is 4.
+pub fn check(nodes: &[Node], set: &[u8]) -> Result<Vec<bool>, Refusal> {
+    check_length(nodes, set.len())?;
     let may = may_be_renamed(nodes);
     let renamed = |(number, byte): (usize, &u8)| match (byte, may[number]) {
         (0, _) => Ok(false),

@@ -1,4 +1,4 @@
--- The output, collected as truth, is true exactly where the root's clauses are and those of every definition.
+-- The output, collected as truth, is true exactly where the root's clauses are and the halves of every definition.
 -- Assumes nothing.
 use mathlib.Core.Path.{_≡_, refl, sym, subst}
 use mathlib.Core.Bool.{Bool, true, false, cond, _&&_, _||_, Bool·beq}
@@ -10,19 +10,14 @@ use lib.Dec.{T, eqb}
 use lib.ListN.{length}
 use borrow.Author.Tests.{eqb-true, eqb-false}
 use Rattle.formula.specs.Marks.{markOf}
-use Rattle.formula.specs.declared.mark.Mark.{Mark}
 use Rattle.formula.specs.declared.node.Node.{Node}
-use Rattle.clausal.specs.Algebra.{Row}
 use Rattle.clausal.specs.Helpers.{renamed, helperOf}
 use Rattle.clausal.specs.Origins.{Every, none, more}
 use Rattle.clausal.specs.Output.{Part, Halves, halvesOf, downPart, upPart, definition, definitions, partsOf, gather, wholeOf}
 use Rattle.clausal.specs.Rows.{rowOf}
 use Rattle.clausal.specs.Satisfies.{truths}
-use Rattle.clausal.proofs.Every.{every-append, every-left, every-right, every-cond, every-taken, every-head, every-tail, and-both, and-left, and-right}
-
-true-of : (b : Bool) → T b → b ≡ true
-true-of true t = refl
-true-of false t = absurd t
+use Rattle.clausal.proofs.Every.{every-append, every-left, every-right, every-cond, every-taken, every-head, every-tail}
+use Rattle.clausal.proofs.Every.{true-of, and-both, and-left, and-right}
 
 module _ (ρ : ℕ → Bool) (v : ℕ) (s : List ℕ) (ns : List Node) where
   -- the definition of node i is true: the half down where the node is positive, the half up where it is negative
@@ -30,7 +25,7 @@ module _ (ρ : ℕ → Bool) (v : ℕ) (s : List ℕ) (ns : List Node) where
     pub down : T (markOf ns i .positive) → T (Bool·beq false (ρ (helperOf v s i)) || rowOf (truths ρ) v s ns i .P)
     pub up : T (markOf ns i .negative) → T (rowOf (truths ρ) v s ns i .N || Bool·beq true (ρ (helperOf v s i)))
 
-  -- the root's clauses are true, and every definition
+  -- the root's clauses are true, and every definition is
   pub record AllTrue : Type 0 where
     pub root : T (rowOf (truths ρ) v s ns (length ns - 1) .P)
     pub defines : (i : ℕ) → i < length ns → renamed s i ≡ true → Defines i
@@ -38,41 +33,45 @@ module _ (ρ : ℕ → Bool) (v : ℕ) (s : List ℕ) (ns : List Node) where
   abbrev True : Part Bool → Type 0
   True p = T (p .content)
 
-  definition-true : (i : ℕ) → (renamed s i ≡ true → Defines i) → Every True (definition (truths ρ) v s ns i)
+  abbrev parts : ℕ → List (Part Bool)
+  parts i = definition (truths ρ) v s ns i
+
+  definition-true : (i : ℕ) → (renamed s i ≡ true → Defines i) → Every True (parts i)
   definition-true i d = every-cond (renamed s i) λ t.
       let r : Defines i = d (true-of (renamed s i) t) in
       every-append
       (every-cond (halvesOf (markOf ns i) .down) λ m. more (r .down m) none)
       (every-cond (halvesOf (markOf ns i) .up) λ m. more (r .up m) none)
 
-  definition-defines : (i : ℕ) → renamed s i ≡ true → Every True (definition (truths ρ) v s ns i) → Defines i
+  definition-defines : (i : ℕ) → renamed s i ≡ true → Every True (parts i) → Defines i
   definition-defines i e d =
-      let downs : List (Part Bool) = cond (halvesOf (markOf ns i) .down) (downPart (truths ρ) v s ns i ∷ []) [] in
-      let ups : List (Part Bool) = cond (halvesOf (markOf ns i) .up) (upPart (truths ρ) v s ns i ∷ []) [] in
-      let both : Every True (downs ++ ups) = every-taken (renamed s i) (downs ++ ups) (subst T (sym e) tt) d in
+      let h : Halves = halvesOf (markOf ns i) in
+      let downs : List (Part Bool) = downPart (truths ρ) v s ns i ∷ [] in
+      let ups : List (Part Bool) = upPart (truths ρ) v s ns i ∷ [] in
+      let all = every-taken (renamed s i) (cond (h .down) downs [] ++ cond (h .up) ups []) (subst T (sym e) tt) d in
       record {
-        down = λ m. every-head (every-taken (halvesOf (markOf ns i) .down) (downPart (truths ρ) v s ns i ∷ []) m (every-left downs ups both));
-        up = λ m. every-head (every-taken (halvesOf (markOf ns i) .up) (upPart (truths ρ) v s ns i ∷ []) m (every-right downs ups both));
+        down = λ m. every-head (every-taken (h .down) downs m (every-left (cond (h .down) downs []) (cond (h .up) ups []) all));
+        up = λ m. every-head (every-taken (h .up) ups m (every-right (cond (h .down) downs []) (cond (h .up) ups []) all));
       }
 
-  definitions-true : (n : ℕ) → ((i : ℕ) → i < n → Every True (definition (truths ρ) v s ns i)) → Every True (definitions (truths ρ) v s ns n)
+  abbrev parts-below : ℕ → List (Part Bool)
+  parts-below n = definitions (truths ρ) v s ns n
+
+  definitions-true : (n : ℕ) → ((i : ℕ) → i < n → Every True (parts i)) → Every True (parts-below n)
   unfolding definitions
   definitions-true zero d = none
   definitions-true (suc n) d = every-append (definitions-true n (λ i h. d i (omega arith))) (d n (omega arith))
 
-  definitions-at : (n i : ℕ) → i < n → Every True (definitions (truths ρ) v s ns n) → Every True (definition (truths ρ) v s ns i)
+  definitions-at : (n i : ℕ) → i < n → Every True (parts-below n) → Every True (parts i)
   unfolding definitions
   definitions-at zero i h d = absurd (omega arith)
   definitions-at (suc n) i h d = go (eqb i n) refl (definitions-at n i)
     where
-      go : (b : Bool) → eqb i n ≡ b → (i < n → Every True (definitions (truths ρ) v s ns n) → Every True (definition (truths ρ) v s ns i))
-          → Every True (definition (truths ρ) v s ns i)
-      go true e ih =
-          subst (λ (j : ℕ). Every True (definition (truths ρ) v s ns j)) (sym (eqb-true i n e))
-          (every-right (definitions (truths ρ) v s ns n) (definition (truths ρ) v s ns n) d)
+      go : (b : Bool) → eqb i n ≡ b → (i < n → Every True (parts-below n) → Every True (parts i)) → Every True (parts i)
+      go true e ih = subst (λ (j : ℕ). Every True (parts j)) (sym (eqb-true i n e)) (every-right (parts-below n) (parts n) d)
       go false e ih =
           let other = eqb-false i n e in
-          ih (omega arith) (every-left (definitions (truths ρ) v s ns n) (definition (truths ρ) v s ns n) d)
+          ih (omega arith) (every-left (parts-below n) (parts n) d)
 
   gather-true : (b : Bool) (ps : List (Part Bool)) → T b → Every True ps → T (gather (truths ρ) b ps)
   gather-true b [] t none = t
@@ -84,13 +83,18 @@ module _ (ρ : ℕ → Bool) (v : ℕ) (s : List ℕ) (ns : List Node) where
       let r = gather-every (b && p .content) ps t in
       (and-left b (p .content) (r .0), more (and-right b (p .content) (r .0)) (r .1))
 
+  all-of-whole : T (wholeOf (truths ρ) v s ns) → AllTrue
+  all-of-whole t =
+      let e = gather-every true (partsOf (truths ρ) v s ns) t .1 in
+      record {
+        root = every-head e;
+        defines = λ i h r. definition-defines i r (definitions-at (length ns) i h (every-tail e));
+      }
+
+  whole-of-all : AllTrue → T (wholeOf (truths ρ) v s ns)
+  whole-of-all a =
+      let defined = definitions-true (length ns) (λ i h. definition-true i (a .defines i h)) in
+      gather-true true (partsOf (truths ρ) v s ns) tt (more (a .root) defined)
+
   pub whole-true : T (wholeOf (truths ρ) v s ns) ↔ AllTrue
-  whole-true = (
-    λ t. let e = gather-every true (partsOf (truths ρ) v s ns) t .1 in
-        record {
-          root = every-head e;
-          defines = λ i h r. definition-defines i r (definitions-at (length ns) i h (every-tail e));
-        },
-    λ a. gather-true true (partsOf (truths ρ) v s ns) tt
-        (more (a .root) (definitions-true (length ns) (λ i h. definition-true i (a .defines i h)))),
-  )
+  whole-true = (all-of-whole, whole-of-all)

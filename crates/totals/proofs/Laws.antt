@@ -1,0 +1,3 @@
+-- Laws of the totals, by subject.
+pub mod Columns
+pub mod Stated

@@ -1,0 +1,2 @@
+-- Laws and theorems of the totals.
+pub mod Laws

@@ -1,0 +1,3 @@
+-- What the contracts of the totals cite.
+pub mod Sized
+pub mod Columns

@@ -1,0 +1,174 @@
+// The totals of one list: how many clauses and how many literals, each read at its ceiling.
+ghost use mathlib.Core.Path.{_≡_};
+ghost use Prim.Native.Nat.{_+_, _*_};
+ghost use Rattle.laws.specs.Caps.{cap};
+ghost use Rattle.clausal.specs.Totals.{clauseCeiling, literalCeiling, capped};
+ghost use Rattle.totals.specs.Sized.{statedAs, sized};
+
+// The whole product of two numbers.
+fn product(a: u32, b: u32) -> u64
+    ensures { λ r. ⌜ r ≡ a * b ⌝ }
+{
+    a as u64 * b as u64
+}
+
+// A number read at a ceiling.
+fn capped_at(ceiling: u32, number: u64) -> u32
+    ensures { λ r. ⌜ r ≡ cap ceiling number ⌝ }
+{
+    if number < ceiling as u64 {
+        number as u32
+    } else {
+        ceiling
+    }
+}
+
+// A clause total.
+pub struct ClauseTotal {
+    pub n: u32,
+}
+
+impl ClauseTotal {
+    pub const CEILING: u32 = 65_535;
+
+    pub fn zero() -> Self
+        ensures { λ r. ⌜ r .n ≡ 0 ⌝ }
+    {
+        Self { n: 0 }
+    }
+
+    // One list followed by another.
+    pub fn add(self, other: Self) -> Self
+        ensures { λ r. ⌜ r .n ≡ cap clauseCeiling (self .n + other .n) ⌝ }
+    {
+        Self {
+            n: capped_at(Self::CEILING, self.n as u64 + other.n as u64),
+        }
+    }
+
+    // The join of two lists.
+    pub fn join(self, other: Self) -> Self
+        ensures { λ r. ⌜ r .n ≡ cap clauseCeiling (self .n * other .n) ⌝ }
+    {
+        Self {
+            n: capped_at(Self::CEILING, product(self.n, other.n)),
+        }
+    }
+}
+
+// A literal total.
+pub struct LiteralTotal {
+    pub n: u32,
+}
+
+impl LiteralTotal {
+    pub const CEILING: u32 = 1_000_000;
+
+    pub fn zero() -> Self
+        ensures { λ r. ⌜ r .n ≡ 0 ⌝ }
+    {
+        Self { n: 0 }
+    }
+
+    // One list followed by another.
+    pub fn add(self, other: Self) -> Self
+        ensures { λ r. ⌜ r .n ≡ cap literalCeiling (self .n + other .n) ⌝ }
+    {
+        Self {
+            n: capped_at(Self::CEILING, self.n as u64 + other.n as u64),
+        }
+    }
+
+    // These literals, repeated for each of a number of clauses.
+    pub fn times(self, clauses: ClauseTotal) -> Self
+        ensures { λ r. ⌜ r .n ≡ cap literalCeiling (self .n * clauses .n) ⌝ }
+    {
+        Self {
+            n: capped_at(Self::CEILING, product(self.n, clauses.n)),
+        }
+    }
+
+    // The join of two lists: each side's literals are repeated for each clause of the other.
+    pub fn join(self, clauses: ClauseTotal, other: Self, others: ClauseTotal) -> Self
+        ensures { λ r. ⌜ r .n ≡ cap literalCeiling (self .n * others .n + other .n * clauses .n) ⌝ }
+    {
+        self.times(others).add(other.times(clauses))
+    }
+}
+
+// Both totals of a list.
+pub struct Total {
+    pub clauses: u32,
+    pub literals: u32,
+}
+
+// A literal total is stated only where its clause total is below the ceiling.
+fn stated(clauses: ClauseTotal, literals: LiteralTotal) -> Total
+    ensures { λ r. ⌜ r ≡ statedAs (clauses .n) (literals .n) ⌝ }
+{
+    if clauses.n < ClauseTotal::CEILING {
+        return Total {
+            clauses: clauses.n,
+            literals: literals.n,
+        };
+    }
+    Total {
+        clauses: clauses.n,
+        literals: LiteralTotal::CEILING,
+    }
+}
+
+impl Total {
+    // No clause.
+    pub fn none() -> Self
+        ensures { λ r. ⌜ r ≡ record { clauses = 0; literals = 0 } ⌝ }
+    {
+        Self {
+            clauses: 0,
+            literals: 0,
+        }
+    }
+
+    // One empty clause.
+    pub fn empty() -> Self
+        ensures { λ r. ⌜ r ≡ record { clauses = 1; literals = 0 } ⌝ }
+    {
+        Self {
+            clauses: 1,
+            literals: 0,
+        }
+    }
+
+    // One clause of one literal.
+    pub fn unit() -> Self
+        ensures { λ r. ⌜ r ≡ record { clauses = 1; literals = 1 } ⌝ }
+    {
+        Self {
+            clauses: 1,
+            literals: 1,
+        }
+    }
+
+    // One list followed by another.
+    pub fn cat(self, other: Self) -> Self
+        ensures { λ r. ⌜ sized r ≡ capped .cat (sized self) (sized other) ⌝ }
+    {
+        let clauses = ClauseTotal { n: self.clauses }.add(ClauseTotal { n: other.clauses });
+        let literals = LiteralTotal { n: self.literals }.add(LiteralTotal { n: other.literals });
+        stated(clauses, literals)
+    }
+
+    // The join of two lists.
+    pub fn join(self, other: Self) -> Self
+        ensures { λ r. ⌜ sized r ≡ capped .join (sized self) (sized other) ⌝ }
+    {
+        let own = ClauseTotal { n: self.clauses };
+        let others = ClauseTotal { n: other.clauses };
+        let literals = LiteralTotal { n: self.literals }.join(
+            own,
+            LiteralTotal { n: other.literals },
+            others,
+        );
+        stated(own.join(others), literals)
+    }
+}

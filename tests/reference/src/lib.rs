@@ -1,0 +1,16 @@
+//! The rules, followed by themselves, apart from the library.
+
+pub mod answer;
+pub mod choose;
+pub mod convert;
+pub mod dimacs_reader;
+pub mod dimacs_writer;
+pub mod fast_choose;
+pub mod lists;
+pub mod node_file;
+pub mod polarity;
+pub mod program;
+pub mod protocol;
+pub mod set;
+pub mod table;
+pub mod totals;
