@@ -1,19 +1,27 @@
 """The programs that the tests ask: the driver over the library, and the reference."""
 
+import itertools
 import pathlib
 import subprocess
 import sys
 
+import entries
+
 TESTS = pathlib.Path(__file__).resolve().parent
 BUILT = TESTS.parent / "target" / "tests"
-
-# The operations that the driver has. The reference has these and more.
-DRIVER_OPERATIONS = {"check"}
+ARCHIVE = TESTS.parent / "target" / "staticlib" / "libhost.a"
+# How many differences are printed.
+SHOWN = 5
 
 
 def build():
     if subprocess.run([TESTS / "build"]).returncode != 0:
         sys.exit("the programs were not built")
+
+
+def driver_operations():
+    """The operations that the driver has: those whose entries the archive has. The reference has more."""
+    return entries.entries(ARCHIVE)
 
 
 def ask(program, requests):
@@ -27,8 +35,22 @@ def ask(program, requests):
     return answers, True
 
 
+def compare(requests):
+    """Asks both programs and prints where they differ. Gives the reference's answers, how many differ,
+    and whether both programs ended well."""
+    expected, reference_ended = ask("reference", requests)
+    answers, driver_ended = ask("driver", requests)
+    turns = itertools.zip_longest(requests, expected, answers, fillvalue="no answer")
+    differ = [turn for turn in enumerate(turns, 1) if turn[1][1] != turn[1][2]]
+    for number, (request, mine, theirs) in differ[:SHOWN]:
+        print(f"request {number}: {shorten(request)}")
+        print(f"  reference: {shorten(mine)}")
+        print(f"  driver:    {shorten(theirs)}")
+    return expected, len(differ), reference_ended and driver_ended
+
+
 def generate(seed, count, operations):
-    command = [BUILT / "generator", seed, count, ",".join(operations)]
+    command = [BUILT / "generator", str(seed), str(count), ",".join(operations)]
     run = subprocess.run(command, stdout=subprocess.PIPE, text=True)
     if run.returncode != 0:
         sys.exit("the requests were not generated")
@@ -36,4 +58,4 @@ def generate(seed, count, operations):
 
 
 def shorten(line):
-    return line if len(line) <= 300 else f"{line[:200]}...{line[-60:]} ({len(line)} characters)"
+    return line if len(line) <= 1000 else f"{line[:800]}...{line[-100:]} ({len(line)} characters)"

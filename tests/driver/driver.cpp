@@ -26,7 +26,7 @@ constexpr size_t longest_shown = 4096;
 constexpr int not_a_request = 2;
 constexpr int fault = 3;
 
-enum class Use { input, answer };
+enum class Use { input, output, answer };
 
 // A buffer lent to the library, with guard bytes on both sides.
 class Lent {
@@ -115,8 +115,10 @@ public:
         std::string field = word();
         if (field == "-" || field == "=")
             return lend(Use::input, field == "-", {});
-        return lend(Use::input, false, from_hex(field));
+        return lend(Use::input, false, from_parts(field));
     }
+
+    Lent &output() { return filled(Use::output, 91, 5); }
 
     Lent &answer_part() { return filled(Use::answer, 37, 11); }
 
@@ -175,13 +177,30 @@ private:
         return static_cast<uint32_t>(value);
     }
 
+    // Parts, each of them hex, or hex and how often it is repeated.
+    std::vector<uint8_t> from_parts(const std::string &field) const
+    {
+        std::vector<uint8_t> bytes;
+        for (size_t start = 0; start <= field.size();) {
+            size_t end = std::min(field.find('+', start), field.size());
+            size_t star = std::min(field.find('*', start), end);
+            size_t times = star == end ? 1 : from_decimal(field.substr(star + 1, end - star - 1));
+            std::vector<uint8_t> part = from_hex(field.substr(start, star - start));
+            bytes.reserve(bytes.size() + times * part.size());
+            for (size_t i = 0; i < times; i++)
+                bytes.insert(bytes.end(), part.begin(), part.end());
+            start = end + 1;
+        }
+        return bytes;
+    }
+
     std::vector<uint8_t> from_hex(const std::string &field) const
     {
         if (field.empty() || field.size() % 2 != 0)
             stop("a lent input is not lower-case hex", not_a_request);
-        std::vector<uint8_t> bytes;
-        for (size_t i = 0; i < field.size(); i += 2)
-            bytes.push_back(static_cast<uint8_t>(16 * digit(field[i]) + digit(field[i + 1])));
+        std::vector<uint8_t> bytes(field.size() / 2);
+        for (size_t i = 0; i < bytes.size(); i++)
+            bytes[i] = static_cast<uint8_t>(16 * digit(field[2 * i]) + digit(field[2 * i + 1]));
         return bytes;
     }
 
@@ -203,6 +222,7 @@ private:
 };
 
 // Each operation reads its request and returns what its call returns.
+// An operation is there where the archive has its entry: tests/build says which.
 
 uint32_t check(Request &request)
 {
@@ -213,8 +233,89 @@ uint32_t check(Request &request)
     return simbolufa_check(table.data(), table.size(), options, answer.data(), answer.size());
 }
 
+#ifdef SIMBOLUFA_HAS_MEASURE
+uint32_t measure(Request &request)
+{
+    uint32_t options = request.number();
+    Lent &table = request.input();
+    Lent &set = request.input();
+    Lent &answer = request.answer_part();
+    request.end();
+    return simbolufa_measure(table.data(), table.size(), options, set.data(), set.size(), answer.data(),
+                             answer.size());
+}
+#endif
+
+#ifdef SIMBOLUFA_HAS_CHOOSE
+uint32_t choose(Request &request)
+{
+    uint32_t options = request.number();
+    uint32_t allowance = request.number();
+    Lent &table = request.input();
+    Lent &set = request.output();
+    Lent &answer = request.answer_part();
+    request.end();
+    return simbolufa_choose(table.data(), table.size(), options, allowance, set.data(), set.size(),
+                            answer.data(), answer.size());
+}
+#endif
+
+#ifdef SIMBOLUFA_HAS_CONVERT
+uint32_t convert(Request &request)
+{
+    uint32_t options = request.number();
+    Lent &table = request.input();
+    Lent &set = request.input();
+    Lent &out = request.output();
+    Lent &answer = request.answer_part();
+    request.end();
+    return simbolufa_convert(table.data(), table.size(), options, set.data(), set.size(), out.data(),
+                             out.size(), answer.data(), answer.size());
+}
+#endif
+
+#ifdef SIMBOLUFA_HAS_WRITE_DIMACS
+uint32_t write_dimacs(Request &request)
+{
+    uint32_t variables = request.number();
+    Lent &clauses = request.input();
+    Lent &text = request.output();
+    Lent &answer = request.answer_part();
+    request.end();
+    return simbolufa_write_dimacs(clauses.data(), clauses.size(), variables, text.data(), text.size(),
+                                  answer.data(), answer.size());
+}
+#endif
+
+#ifdef SIMBOLUFA_HAS_READ_DIMACS
+uint32_t read_dimacs(Request &request)
+{
+    Lent &text = request.input();
+    Lent &clauses = request.output();
+    Lent &answer = request.answer_part();
+    request.end();
+    return simbolufa_read_dimacs(text.data(), text.size(), clauses.data(), clauses.size(), answer.data(),
+                                 answer.size());
+}
+#endif
+
 const std::map<std::string, uint32_t (*)(Request &)> operations = {
     {"check", check},
+#ifdef SIMBOLUFA_HAS_MEASURE
+    {"measure", measure},
+#endif
+#ifdef SIMBOLUFA_HAS_CHOOSE
+    {"choose", choose},
+#endif
+#ifdef SIMBOLUFA_HAS_CONVERT
+    {"convert", convert},
+#endif
+#ifdef SIMBOLUFA_HAS_WRITE_DIMACS
+    {"write_dimacs", write_dimacs},
+#endif
+#ifdef SIMBOLUFA_HAS_READ_DIMACS
+    {"read_dimacs", read_dimacs},
+#endif
 };
 
 } // namespace

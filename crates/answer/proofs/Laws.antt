@@ -1,2 +1,3 @@
 -- Laws of the answer, by subject.
+pub mod Order
 pub mod Part

@@ -9,6 +9,8 @@ use borrow.Fn.Kinds.{Dens, endedOf, resT}
 use Rattle.answer.specs.Part.{Given}
 use Rattle.answer.proofs.tell.Kinds as tell-kinds
 use Rattle.answer.proofs.tell.Reads as tell
+use Rattle.answer.proofs.is_refusal.Kinds as is-refusal-kinds
+use Rattle.answer.proofs.is_refusal.Reads as is-refusal
 use Rattle.answer.proofs.put.Kinds as put-kinds
 use Rattle.answer.proofs.put.Reads as put
 use Rattle.answer.proofs.give.Kinds as give-kinds
@@ -17,6 +19,10 @@ use Rattle.answer.proofs.give.Reads as give
 pub tell-settled : (κs : Lfts 0) (a : Dens κs tell-kinds.ps) (r q : resT tell-kinds.r κs .Denot) (s t : AtExit (endedOf 0 tell-kinds.ps tell-kinds.r) κs)
     → tell.Post κs a r s → tell.Post κs a q t → r ≡ q
 tell-settled κs a r q s t e f = e ∙ sym f
+
+pub is-refusal-settled : (κs : Lfts 0) (a : Dens κs is-refusal-kinds.ps) (r q : resT is-refusal-kinds.r κs .Denot) (s t : AtExit (endedOf 0 is-refusal-kinds.ps is-refusal-kinds.r) κs)
+    → is-refusal.Post κs a r s → is-refusal.Post κs a q t → r ≡ q
+is-refusal-settled κs a r q s t e f = e ∙ sym f
 
 pub put-settled : (κs : Lfts 1) (a : Dens κs put-kinds.ps) (r q : resT put-kinds.r κs .Denot) (s t : AtExit (endedOf 1 put-kinds.ps put-kinds.r) κs)
     → put.Post κs a r s → put.Post κs a q t → now (s .0) ≡ now (t .0)

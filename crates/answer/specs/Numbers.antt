@@ -1,6 +1,8 @@
 -- "Numbers of refusal": the number, the place and the two values of each answer.
 -- Assumes nothing: these are definitions.
+use mathlib.Core.Bool.{Bool, cond, not}
 use Prim.Native.Nat.{ℕ}
+use lib.Dec.{eqb}
 use Rattle.answer.specs.declared.Answer.{Answer}
 use Rattle.answer.specs.declared.Answer.the-variants.{Accepted, TableLength, Options, Record, Set, Clauses, Literals, Room, Text, ClauseBytes, Line, AnswerPart}
 use Rattle.answer.specs.declared.Told.{Told}
@@ -23,3 +25,11 @@ toldOf (Text place) = refused 8 place
 toldOf ClauseBytes = refused 9 0
 toldOf (Line line) = refused 10 line
 toldOf AnswerPart = refused 11 0
+
+-- whether an answer is a refusal
+abbrev pub refuses : Answer → Bool
+refuses a = not (eqb (toldOf a .number) 0)
+
+-- "Checks go in this order": a refusal stands, and after acceptance the next check decides
+abbrev pub after : Answer → Answer → Answer
+after a next = cond (refuses a) a next

@@ -5,7 +5,7 @@ ghost use lib.ListN.{length};
 ghost use Rattle.laws.specs.Bytes.{little};
 ghost use Rattle.laws.specs.Caps.{cap};
 ghost use Rattle.laws.specs.Splices.{splice};
-ghost use Rattle.answer.specs.Numbers.{refused, toldOf};
+ghost use Rattle.answer.specs.Numbers.{refused, toldOf, refuses};
 ghost use Rattle.answer.specs.Part.{mostShown, given};
 
 pub enum Answer {
@@ -78,6 +78,14 @@ pub fn tell(answer: Answer) -> Told
         Answer::Line { line } => refusal(10, line as usize),
         Answer::AnswerPart => refusal(11, 0),
     }
+}
+
+// Whether an answer is a refusal.
+pub fn is_refusal(answer: Answer) -> bool
+    ensures { λ r. ⌜ r ≡ refuses answer ⌝ }
+{
+    let told = tell(answer);
+    told.number != 0
 }
 
 // A place as it is shown: one that is too large for 32 bits shows as the largest number.

@@ -1,4 +1,5 @@
--- The row in which each helper has its node's truth: it agrees with the given row on every option, and with the node on its helper.
+-- The row in which each helper has its node's truth: it agrees with the given row on every option, and with each node on its
+-- helper.
 -- Assumes nothing.
 use mathlib.Core.Path.{_≡_, refl, sym, _∙_}
 use mathlib.Core.Bool.{Bool, true, false, cond}

@@ -22,7 +22,8 @@ known-right v i n e = go (known (n .kind)) _ e
     go true fault q = refl
     go false fault q = absurd (omega arith)
 
-pub accepted-known : (t : List ℕ) (v x y : ℕ) → checked t v ≡ Accepted x y → (i : ℕ) → known (nodeIn (nodesOf t) i .kind) ≡ true
+pub accepted-known : (t : List ℕ) (v x y : ℕ) → checked t v ≡ Accepted x y
+    → (i : ℕ) → known (nodeIn (nodesOf t) i .kind) ≡ true
 accepted-known t v x y e i = go (decLt i (nodeCount t))
   where
     kind-of : {n m : Node} → n ≡ m → known (n .kind) ≡ known (m .kind)

@@ -1,6 +1,6 @@
--- The clauses mean the formula: a row that satisfies them satisfies the formula; and a row that satisfies the formula satisfies
--- them, with each helper at its node's truth. Both are one induction along the nodes, here with implication and the polarities,
--- there with equality and both signs.
+-- The clauses mean the formula: a row that satisfies them satisfies the formula; and a row that satisfies the formula
+-- satisfies them, with each helper at its node's truth. Both are one induction along the nodes: with implication and the
+-- polarities, and with equality and both signs.
 -- Assumes nothing.
 use mathlib.Core.Path.{_≡_, refl, ap, _∙_, subst, subst⁻¹}
 use mathlib.Core.Bool.{Bool, true, false, cond, not, _&&_, _||_, Bool·beq}
@@ -40,34 +40,41 @@ module _ (ns : List Node) (v : ℕ) (s : List ℕ) where
   abbrev child : (ℕ → Bool) → ℕ → Row Bool
   child τ j = seenOf (truths τ) v s ns j
 
+  abbrev rule : (ℕ → Bool) → ℕ → Row Bool
+  rule τ i = ruleAt (truths τ) (nodeIn ns i) (child τ)
+
   abbrev truth : (ℕ → Bool) → ℕ → Row Bool
   truth ρ i = signed (truthOf ρ ns i)
 
   module _ (wf : WellFormed v ns) (kinds : (i : ℕ) → known (nodeIn ns i .kind) ≡ true) where
-    -- the induction: what is kept holds of every node, at the signs that m gives it, if it holds of a node seen as a child
+    -- the induction: a relation that is kept holds at every node, for the signs that m gives it, if it goes over to the node
+    -- seen as a child
     module _ (ρ τ : ℕ → Bool) (Q : Bool → Bool → Type 0) (keeps : Keeps (λ x. x ≤ v) (truths τ) (truths ρ) Q) (m : ℕ → Mark)
         (to-a : (i : ℕ) (z : Bool) → T (has z (toA (nodeIn ns i .kind) (m i))) → T (has z (m (nodeIn ns i .a))))
         (to-b : (i : ℕ) (z : Bool) → T (has z (toB (nodeIn ns i .kind) (m i))) → T (has z (m (nodeIn ns i .b))))
         (as-seen : (j : ℕ) → j < length ns → Under Q (m j) (row τ j) (truth ρ j) → Under Q (m j) (child τ j) (truth ρ j)) where
-      passed-on : (i j : ℕ) (given : Mark) → ((z : Bool) → T (has z given) → j < i) → ((z : Bool) → T (has z given) → T (has z (m j)))
+      passed-on : (i j : ℕ) (given : Mark) → ((z : Bool) → T (has z given) → j < i)
+          → ((z : Bool) → T (has z given) → T (has z (m j)))
           → (j < i → Under Q (m j) (child τ j) (truth ρ j)) → Under Q given (child τ j) (truth ρ j)
       passed-on i j given below to u = record {
         P = λ t. u (below true t) .P (to true t);
         N = λ t. u (below false t) .N (to false t);
       }
 
-      at-node : (i : ℕ) → i < length ns → ((j : ℕ) → j < i → Under Q (m j) (child τ j) (truth ρ j)) → Under Q (m i) (row τ i) (truth ρ i)
+      at-node : (i : ℕ) → i < length ns → ((j : ℕ) → j < i → Under Q (m j) (child τ j) (truth ρ j))
+          → Under Q (m i) (row τ i) (truth ρ i)
       at-node i h u =
           let n : Node = nodeIn ns i in
           subst⁻¹ (λ (x : Row Bool). Under Q (m i) x (truth ρ i)) (row-at (truths τ) v s ns i h (wf .below i))
-          (subst⁻¹ (λ (y : Row Bool). Under Q (m i) (ruleAt (truths τ) n (child τ)) y) (truth-at ρ ns i h (wf .below i) (kinds i))
-          (under-by (λ x. x ≤ v) (truths τ) (truths ρ) Q keeps (n .kind) (n .a) (m i) _ _ _ _ (λ e. wf .symbols i e .1)
+          (subst⁻¹ (λ (y : Row Bool). Under Q (m i) (rule τ i) y) (truth-at ρ ns i h (wf .below i) (kinds i))
+          (under-by (λ x. x ≤ v) _ _ Q keeps (n .kind) (n .a) (m i) _ _ _ _ (λ e. wf .symbols i e .1)
           (passed-on i (n .a) (toA (n .kind) (m i)) (a-below i n (m i) (wf .below i)) (to-a i) (u (n .a)))
           (passed-on i (n .b) (toB (n .kind) (m i)) (b-below i n (m i) (wf .below i)) (to-b i) (u (n .b)))))
 
       means : (n i : ℕ) → i < n → n ≤ length ns → Under Q (m i) (row τ i) (truth ρ i)
       means zero i h l = absurd (omega arith)
-      means (suc n) i h l = at-node i (omega arith) (λ j g. as-seen j (omega arith) (means n j (omega arith) (omega arith)))
+      means (suc n) i h l = at-node i (omega arith) λ j g.
+          as-seen j (omega arith) (means n j (omega arith) (omega arith))
 
 -- implication is kept
 abbrev Gives : Bool → Bool → Type 0
@@ -115,12 +122,13 @@ has-both : (z : Bool) → T (has z both)
 has-both true = tt
 has-both false = tt
 
-module _ (ns : List Node) (v : ℕ) (s : List ℕ) (wf : WellFormed v ns) (kinds : (i : ℕ) → known (nodeIn ns i .kind) ≡ true) (ρ : ℕ → Bool) where
+module _ (ns : List Node) (v : ℕ) (s : List ℕ) (ρ : ℕ → Bool)
+    (wf : WellFormed v ns) (kinds : (i : ℕ) → known (nodeIn ns i .kind) ≡ true) where
   -- where the definitions hold, a row gives the truth, along the polarities
   sound-rows : AllTrue ρ v s ns → (i : ℕ) → i < length ns → Under Gives (markOf ns i) (row ns v s ρ i) (truth ns v s ρ i)
   sound-rows all i h =
-      means ns v s wf kinds ρ ρ Gives (gives-keeps _ ρ) (markOf ns) (passed-a ns (wf .below)) (passed-b ns (wf .below)) as-seen
-      (length ns) i h (omega arith)
+      means ns v s wf kinds ρ ρ Gives (gives-keeps _ ρ)
+      (markOf ns) (passed-a ns (wf .below)) (passed-b ns (wf .below)) as-seen (length ns) i h (omega arith)
     where
       as-seen : (j : ℕ) → j < length ns → Under Gives (markOf ns j) (row ns v s ρ j) (truth ns v s ρ j)
           → Under Gives (markOf ns j) (child ns v s ρ j) (truth ns v s ρ j)
@@ -157,13 +165,15 @@ module _ (ns : List Node) (v : ℕ) (s : List ℕ) (wf : WellFormed v ns) (kinds
   -- in it every row is the truth
   complete-rows : (i : ℕ) → i < length ns → Under _≡_ both (row ns v s τ i) (truth ns v s ρ i)
   complete-rows i h =
-      means ns v s wf kinds ρ τ _≡_ equal-keeps (λ j. both) (λ j z t. has-both z) (λ j z t. has-both z) as-seen
-      (length ns) i h (omega arith)
+      means ns v s wf kinds ρ τ _≡_ equal-keeps
+      (λ j. both) (λ j z t. has-both z) (λ j z t. has-both z) as-seen (length ns) i h (omega arith)
     where
-      as-seen : (j : ℕ) → j < length ns → Under _≡_ both (row ns v s τ j) (truth ns v s ρ j) → Under _≡_ both (child ns v s τ j) (truth ns v s ρ j)
+      as-seen : (j : ℕ) → j < length ns → Under _≡_ both (row ns v s τ j) (truth ns v s ρ j)
+          → Under _≡_ both (child ns v s τ j) (truth ns v s ρ j)
       as-seen j l u = go (renamed s j) refl
         where
-          go : (b : Bool) → renamed s j ≡ b → Under _≡_ both (cond b (unitRow (truths τ) (helperOf v s j)) (row ns v s τ j)) (truth ns v s ρ j)
+          go : (b : Bool) → renamed s j ≡ b
+              → Under _≡_ both (cond b (unitRow (truths τ) (helperOf v s j)) (row ns v s τ j)) (truth ns v s ρ j)
           go false e = u
           go true e =
               let q = signed-unit (τ (helperOf v s j)) ∙ ap signed (extended-helper ρ v s ns j l e) in
@@ -185,8 +195,8 @@ module _ (ns : List Node) (v : ℕ) (s : List ℕ) (wf : WellFormed v ns) (kinds
 module _ (t : List ℕ) (v : ℕ) (accepted : checked t v ≡ Accepted 0 0) (s : List ℕ) (ρ : ℕ → Bool) where
   -- a row that satisfies the clauses satisfies the formula
   pub sound : T (satisfies ρ (outputOf v s (nodesOf t))) → T (formulaTrue ρ (nodesOf t))
-  sound = sound-nodes (nodesOf t) v s (accepted-well-formed t v 0 0 accepted) (accepted-known t v 0 0 accepted) ρ
+  sound = sound-nodes (nodesOf t) v s ρ (accepted-well-formed t v 0 0 accepted) (accepted-known t v 0 0 accepted)
 
   -- a row that satisfies the formula satisfies the clauses, with each helper at its node's truth
   pub complete : T (formulaTrue ρ (nodesOf t)) → T (satisfies (extended ρ v s (nodesOf t)) (outputOf v s (nodesOf t)))
-  complete = complete-nodes (nodesOf t) v s (accepted-well-formed t v 0 0 accepted) (accepted-known t v 0 0 accepted) ρ
+  complete = complete-nodes (nodesOf t) v s ρ (accepted-well-formed t v 0 0 accepted) (accepted-known t v 0 0 accepted)

@@ -81,5 +81,7 @@ module _ (v : ℕ) (s : List ℕ) (ns : List Node) (k : ℕ) where
   pub output-stands : k < length (outputOf v s ns) → Stands parts k place
   output-stands h = stands parts k (subst (λ (cs : List Clause). k < length cs) (output-contents v s ns) h)
 
-  pub output-clause : k < length (outputOf v s ns) → getD (outputOf v s ns) k [] ≡ getD (contentIn parts (place .part)) (place .number) []
-  output-clause h = ap (λ (cs : List Clause). getD cs k []) (output-contents v s ns) ∙ clause-at parts k place (output-stands h)
+  pub output-clause : k < length (outputOf v s ns)
+      → getD (outputOf v s ns) k [] ≡ getD (contentIn parts (place .part)) (place .number) []
+  output-clause h =
+      ap (λ (cs : List Clause). getD cs k []) (output-contents v s ns) ∙ clause-at parts k place (output-stands h)

@@ -42,7 +42,7 @@ both = record { positive = true; negative = true }
 module _ {C D : Type 0} (Known : ℕ → Type 0) (A : Algebra C) (B : Algebra D) (Q : C → D → Type 0)
     (keeps : Keeps Known A B Q) where
   pub under-unit : (m : Mark) (x : ℕ) → Known x → Under Q m (unitRow A x) (unitRow B x)
-  under-unit m x k = record { P = λ t. keeps .unit true x k; N = λ t. keeps .unit false x k }
+  under-unit m x k = record { P = λ t. search (keeps .unit); N = λ t. search (keeps .unit) }
 
   pub under-none : (m : Mark) → Under Q m (noRow A) (noRow B)
   under-none m = record { P = λ t. keeps .none; N = λ t. keeps .none }
@@ -111,7 +111,8 @@ module _ {C D : Type 0} (A : Algebra C) (B : Algebra D) (Q : C → D → Type 0)
           → Under Q both (rowFrom A v s ns xs i) (rowFrom B v s ns ys i)
       step xs ys i e =
           let node : Node = nodeIn ns i in
-          under-by (Origin v s ns) A B Q keeps (node .kind) (node .a) both _ _ _ _ (option i) (child (node .a)) (child (node .b))
+          under-by (Origin v s ns) A B Q keeps (node .kind) (node .a) both _ _ _ _ (option i)
+          (child (node .a)) (child (node .b))
         where
           child : {m : Mark} (j : ℕ)
               → Under Q m (seen A v s j (getD xs j (noRow A))) (seen B v s j (getD ys j (noRow B)))
@@ -135,7 +136,9 @@ module _ {C D : Type 0} (A : Algebra C) (B : Algebra D) (Q : C → D → Type 0)
 
   -- two parts, each there under a condition of its own, and both under one
   each-two : (b d u : Bool) (p r : Part C) (q t : Part D) → (b ≡ true → Parts Q p q) → (b ≡ true → Parts Q r t)
-      → Each (Parts Q) (cond b (cond d (p ∷ []) [] ++ cond u (r ∷ []) []) []) (cond b (cond d (q ∷ []) [] ++ cond u (t ∷ []) []) [])
+      → Each (Parts Q)
+      (cond b (cond d (p ∷ []) [] ++ cond u (r ∷ []) []) [])
+      (cond b (cond d (q ∷ []) [] ++ cond u (t ∷ []) []) [])
   each-two false d u p r q t f g = none
   each-two true true true p r q t f g = more (f refl) (more (g refl) none)
   each-two true true false p r q t f g = more (f refl) none
@@ -148,7 +151,10 @@ module _ {C D : Type 0} (A : Algebra C) (B : Algebra D) (Q : C → D → Type 0)
   related-definitions : (n : ℕ) → Each (Parts Q) (definitions A v s ns n) (definitions B v s ns n)
   unfolding definitions
   related-definitions zero = none
-  related-definitions (suc n) = each-append (related-definitions n) (related-definition n)
+  related-definitions (suc n) =
+      let before = related-definitions n in
+      let last = related-definition n in
+      search each-append
 
   -- every part
   pub related-parts : Each (Parts Q) (partsOf A v s ns) (partsOf B v s ns)

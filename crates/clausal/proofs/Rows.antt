@@ -22,7 +22,7 @@ use Rattle.clausal.specs.Algebra.{Algebra, Row, noRow, rowBy}
 use Rattle.clausal.specs.Rows.{seen, rowFrom, rowsOf, rowOf}
 use Rattle.clausal.proofs.Related.{Keeps, Under, both, under-by}
 
--- what a node passes on goes to children below it: put on a list of no marks, as long as its place, it would show nowhere else
+-- what a node passes on goes to children below it: in a list of as many nodes as stand below it, it has to show
 module _ (k : ℕ) (n : Node) (m : Mark) (b : Below k n) where
   given : Passed k n m (replicate k unmarked) (passOn n m (replicate k unmarked))
   given = passed k n m (replicate k unmarked) (omega (arith, length-replicate k unmarked)) b
@@ -64,7 +64,8 @@ module _ {C : Type 0} (A : Algebra C) where
   }
 
   -- it looks only at children below the node
-  pub rule-same : (i : ℕ) (n : Node) → Below i n → (f g : ℕ → Row C) → ((j : ℕ) → j < i → f j ≡ g j) → ruleAt A n f ≡ ruleAt A n g
+  pub rule-same : (i : ℕ) (n : Node) → Below i n → (f g : ℕ → Row C) → ((j : ℕ) → j < i → f j ≡ g j)
+      → ruleAt A n f ≡ ruleAt A n g
   rule-same i n b f g e =
       let u : Under _≡_ both (ruleAt A n f) (ruleAt A n g) =
       under-by (λ x. Unit {0}) A A _≡_ same-keeps (n .kind) (n .a) both _ _ _ _ (λ k. tt)

@@ -75,22 +75,23 @@ stated =
     ∷ record { table = equivalence ++ equivalent-of 2 2; options = 2; set = 0 ∷ 0 ∷ 0 ∷ 0 ∷ []; clauses = 8 }
     -- slides, "Problemi di Convert1": three conjunctions of two have 8
     ∷ record { table = slide; options = 6; set = 0 ∷ 0 ∷ 0 ∷ 0 ∷ 0 ∷ 0 ∷ 0 ∷ 0 ∷ 0 ∷ 0 ∷ 0 ∷ []; clauses = 8 }
-    -- thesis, inside the counterexample to its first claim: nothing renamed, the left, the right, both
+    -- thesis, counterexample to "Afirmação 1": of conjunctions of m and n symbols an or has m · n clauses, m + n with either
+    -- renamed, and m + n + 1 with both; two and two symbols
     ∷ record { table = two-or-two; options = 4; set = 0 ∷ 0 ∷ 0 ∷ 0 ∷ 0 ∷ 0 ∷ 0 ∷ []; clauses = 4 }
     ∷ record { table = two-or-two; options = 4; set = 0 ∷ 0 ∷ 0 ∷ 0 ∷ 1 ∷ 0 ∷ 0 ∷ []; clauses = 4 }
     ∷ record { table = two-or-two; options = 4; set = 0 ∷ 0 ∷ 0 ∷ 0 ∷ 0 ∷ 1 ∷ 0 ∷ []; clauses = 4 }
     ∷ record { table = two-or-two; options = 4; set = 0 ∷ 0 ∷ 0 ∷ 0 ∷ 1 ∷ 1 ∷ 0 ∷ []; clauses = 5 }
-    -- the same with two and three symbols
+    -- two and three symbols
     ∷ record { table = two-or-three; options = 5; set = 0 ∷ 0 ∷ 0 ∷ 0 ∷ 0 ∷ 0 ∷ 0 ∷ 0 ∷ 0 ∷ []; clauses = 6 }
     ∷ record { table = two-or-three; options = 5; set = 0 ∷ 0 ∷ 0 ∷ 0 ∷ 0 ∷ 1 ∷ 0 ∷ 0 ∷ 0 ∷ []; clauses = 5 }
     ∷ record { table = two-or-three; options = 5; set = 0 ∷ 0 ∷ 0 ∷ 0 ∷ 0 ∷ 0 ∷ 0 ∷ 1 ∷ 0 ∷ []; clauses = 5 }
     ∷ record { table = two-or-three; options = 5; set = 0 ∷ 0 ∷ 0 ∷ 0 ∷ 0 ∷ 1 ∷ 0 ∷ 1 ∷ 0 ∷ []; clauses = 6 }
-    -- thesis, Example 12 and what follows Algorithm 1: with three and three symbols
+    -- three and three symbols: Example 12, and what follows Algorithm 1
     ∷ record { table = three-or-three; options = 6; set = 0 ∷ 0 ∷ 0 ∷ 0 ∷ 0 ∷ 0 ∷ 0 ∷ 0 ∷ 0 ∷ 0 ∷ 0 ∷ []; clauses = 9 }
     ∷ record { table = three-or-three; options = 6; set = 0 ∷ 0 ∷ 0 ∷ 0 ∷ 0 ∷ 0 ∷ 0 ∷ 1 ∷ 0 ∷ 0 ∷ 0 ∷ []; clauses = 6 }
     ∷ record { table = three-or-three; options = 6; set = 0 ∷ 0 ∷ 0 ∷ 0 ∷ 0 ∷ 0 ∷ 0 ∷ 0 ∷ 0 ∷ 1 ∷ 0 ∷ []; clauses = 6 }
     ∷ record { table = three-or-three; options = 6; set = 0 ∷ 0 ∷ 0 ∷ 0 ∷ 0 ∷ 0 ∷ 0 ∷ 1 ∷ 0 ∷ 1 ∷ 0 ∷ []; clauses = 7 }
-    -- the same with four and two symbols
+    -- four and two symbols
     ∷ record { table = four-or-two; options = 6; set = 0 ∷ 0 ∷ 0 ∷ 0 ∷ 0 ∷ 0 ∷ 0 ∷ 0 ∷ 0 ∷ 0 ∷ 0 ∷ []; clauses = 8 }
     ∷ record { table = four-or-two; options = 6; set = 0 ∷ 0 ∷ 0 ∷ 0 ∷ 0 ∷ 0 ∷ 0 ∷ 0 ∷ 1 ∷ 0 ∷ 0 ∷ []; clauses = 6 }
     ∷ record { table = four-or-two; options = 6; set = 0 ∷ 0 ∷ 0 ∷ 0 ∷ 0 ∷ 0 ∷ 0 ∷ 0 ∷ 0 ∷ 1 ∷ 0 ∷ []; clauses = 6 }
@@ -125,6 +126,10 @@ abbrev ands : ℕ → List ℕ
 ands zero = symbol 1
 ands (suc k) = ands k ++ and-of (2 * k) (2 * k) ++ and-of (2 * k + 1) 0
 
+-- 14 times, and an and of that with itself
+abbrev twice : List ℕ
+twice = ands 14 ++ and-of 28 28
+
 -- false, then an and of the node before with itself, k times
 abbrev falses : ℕ → List ℕ
 falses zero = false-node
@@ -137,8 +142,8 @@ readings =
     ∷ record { table = ors 20; clauses = 1; literals = 1_048_576; clausesRead = 1; literalsRead = 1_000_000 }
     -- example 11: 14 times; and of that with itself; and of that with s1
     ∷ record { table = ands 14; clauses = 32_767; literals = 32_767; clausesRead = 32_767; literalsRead = 32_767 }
-    ∷ record { table = ands 14 ++ and-of 28 28; clauses = 65_534; literals = 65_534; clausesRead = 65_534; literalsRead = 65_534 }
-    ∷ record { table = ands 14 ++ and-of 28 28 ++ and-of 29 0; clauses = 65_535; literals = 65_535; clausesRead = 65_535; literalsRead = 1_000_000 }
+    ∷ record { table = twice; clauses = 65_534; literals = 65_534; clausesRead = 65_534; literalsRead = 65_534 }
+    ∷ record { table = twice ++ and-of 29 0; clauses = 65_535; literals = 65_535; clausesRead = 65_535; literalsRead = 1_000_000 }
     -- at the clause ceiling no literal total is stated, even where there is no literal
     ∷ record { table = falses 16; clauses = 65_536; literals = 0; clausesRead = 65_535; literalsRead = 1_000_000 }
     -- "a huge total joined with true is 0"

@@ -88,8 +88,12 @@ module _ (ρ : ℕ → Bool) where
   truth-by Equivalent n false false e = refl
   truth-by Unknown n x y e = let z : _≡_ {A = ℕ} 0 1 = cc in absurd (omega arith)
 
-  module _ (ns : List Node) (i : ℕ) (h : i < length ns) (b : Below i (nodeIn ns i)) (k : known (nodeIn ns i .kind) ≡ true) where
-    before : (j : ℕ) → j < i → getD (upTo (truthFrom ρ ns) i) j false ≡ truthOf ρ ns j
+  module _ (ns : List Node) (i : ℕ) (h : i < length ns)
+      (b : Below i (nodeIn ns i)) (k : known (nodeIn ns i .kind) ≡ true) where
+    abbrev earlier : ℕ → Bool
+    earlier j = getD (upTo (truthFrom ρ ns) i) j false
+
+    before : (j : ℕ) → j < i → earlier j ≡ truthOf ρ ns j
     before j g =
         ap (λ (l : List Bool). getD l j false) (sym (take-upTo (truthFrom ρ ns) i (length ns) (omega arith)))
         ∙ getD-take i (truthsOf ρ ns) j false g
@@ -99,4 +103,4 @@ module _ (ρ : ℕ → Bool) where
     truth-at =
         ap signed (getD-upTo (truthFrom ρ ns) false i (length ns) h)
         ∙ sym (truth-by (nodeIn ns i .kind) (nodeIn ns i .a) _ _ k)
-        ∙ rule-same (truths ρ) i (nodeIn ns i) b (λ j. signed (getD (upTo (truthFrom ρ ns) i) j false)) _ (λ j g. ap signed (before j g))
+        ∙ rule-same (truths ρ) i (nodeIn ns i) b (λ j. signed (earlier j)) _ (λ j g. ap signed (before j g))

@@ -3,5 +3,6 @@ pub mod Held
 pub mod Marks
 pub mod Passing
 pub mod Polarity
+pub mod Sets
 pub mod Tables
 pub mod WellFormed

@@ -2,7 +2,8 @@
 -- Assumes nothing: these are definitions.
 use mathlib.Core.Bool.{Bool, cond, not, _||_}
 use mathlib.Core.List.{List}
-use Prim.Native.Nat.{ℕ, _*_, _%_}
+use mathlib.Core.Path.{_≡_}
+use Prim.Native.Nat.{ℕ, _*_, _/_, _%_, _<_, _≤_}
 use lib.Dec.{eqb, ltb}
 use lib.ListN.{length}
 use Rattle.laws.specs.First.{first}
@@ -15,6 +16,12 @@ use Rattle.formula.specs.Records.{faultOf}
 -- "table empty, not a multiple of 5 bytes, or over 5,120"
 abbrev pub lengthWrong : ℕ → Bool
 lengthWrong n = eqb n 0 || (not (eqb (n % nodeBytes) 0) || ltb (nodeBytes * mostNodes) n)
+
+-- a right length: some whole nodes, and no more than a table may have
+pub record RightLength (n : ℕ) : Type 0 where
+  pub some : 0 < n / nodeBytes
+  pub even : n % nodeBytes ≡ 0
+  pub most : n ≤ nodeBytes * mostNodes
 
 -- whether the record of node i is right
 abbrev pub recordRight : List ℕ → ℕ → ℕ → Bool

@@ -1,3 +1,4 @@
 -- Laws of the totals, by subject.
 pub mod Columns
 pub mod Stated
+pub mod Whole

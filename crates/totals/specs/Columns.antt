@@ -2,6 +2,7 @@
 -- Assumes nothing: these are definitions.
 use mathlib.Core.Bool.{cond}
 use mathlib.Core.List.{List, map}
+use mathlib.Core.Path.{_≡_}
 use Prim.Native.Nat.{ℕ}
 use lib.ListN.{getD}
 use Rattle.laws.specs.Arrays.{padTo}
@@ -49,3 +50,7 @@ childIn s pc pl nc nl i = cond (renamed s i) (algebra.unitRow capped 0) (rowIn p
 -- the row of a node whose children are read from four arrays
 abbrev pub rowNext : Node → List ℕ → List ℕ → List ℕ → List ℕ → List ℕ → algebra.Row Size
 rowNext n s pc pl nc nl = algebra.rowBy capped (n .kind) (n .a) (childIn s pc pl nc nl (n .a)) (childIn s pc pl nc nl (n .b))
+
+-- four arrays hold the totals of all nodes under a set
+pub record Hold (s : List ℕ) (ns : List Node) (pc pl nc nl : List ℕ) : Type 0 where
+  pub all : record { «p_clauses» = pc; «p_literals» = pl; «n_clauses» = nc; «n_literals» = nl } ≡ columnsOf (rowTotals s ns)

@@ -1,8 +1,15 @@
 //! `generator SEED COUNT [OPERATIONS]` prints COUNT requests of the line protocol.
 //! OPERATIONS are names parted by commas. Without them all requests are checks.
 
+mod ceiling;
+mod clause_bytes;
+mod dimacs_text;
+mod field;
+mod formula;
+mod node_file;
 mod random;
 mod request;
+mod set;
 mod table;
 
 use random::Random;

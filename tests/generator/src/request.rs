@@ -1,161 +1,218 @@
 //! Requests of the line protocol, each part of which may be at fault.
 
+use crate::clause_bytes::{self, variable_count};
+use crate::dimacs_text;
+use crate::field::{answer_part, input, input_in_parts, output, room};
+use crate::formula::{any_formula, right_formula, small_formula, Formula};
+use crate::node_file::node_file;
 use crate::random::Random;
-use crate::table::{bytes, damage, node_count, right, Node, MOST_NODES};
+use crate::set::set;
+use crate::table::MOST_NODES;
+use reference::fast_choose::fast_choose;
+use reference::{convert, dimacs_writer, table};
 
-/// One in this many requests has a right table, and these go through all node counts.
+/// One in this many checks has a right table, and these go through all node counts.
 const RIGHT_TURN: usize = 10;
+/// Longer conversions are asked for seldom, so that most requests are quick.
+const LONG: u64 = 20_000;
 
 /// The request of a turn, of the operation named. None where there is no such operation.
 pub fn request(random: &mut Random, turn: usize, operation: &str) -> Option<String> {
-    let Formula {
-        nodes,
-        table,
-        options,
-    } = match turn % RIGHT_TURN {
-        0 => right_formula(random, 1 + turn / RIGHT_TURN % MOST_NODES),
-        _ => formula(random),
+    let fields = match operation {
+        "check" => check(random, turn),
+        "marks" => marks(random, turn),
+        "set" => set_fields(random, turn),
+        "measure" => measure(random),
+        "choose" => choose(random),
+        "convert" => convert_fields(random),
+        "write_dimacs" => write_dimacs(random),
+        "read_dimacs" => read_dimacs(random),
+        "program" => program(random),
+        _ => return None,
     };
-    let lent = format!("{operation} {options} {}", input(random, &table));
-    match operation {
-        "check" => Some(format!("{lent} {}", answer_part(random))),
-        "marks" => Some(lent),
-        "set" => {
-            let set = set(random, &nodes);
-            Some(format!("{lent} {}", input(random, &set)))
+    Some(format!("{operation} {fields}"))
+}
+
+/// The formula of a check in this turn.
+fn checked_formula(random: &mut Random, turn: usize) -> Formula {
+    match turn % RIGHT_TURN {
+        0 => right_formula(random, 1 + turn / RIGHT_TURN % MOST_NODES),
+        _ => any_formula(random),
+    }
+}
+
+fn formula_fields(random: &mut Random, formula: &Formula) -> String {
+    format!("{} {}", formula.options, input(random, &formula.table))
+}
+
+fn check(random: &mut Random, turn: usize) -> String {
+    let formula = checked_formula(random, turn);
+    let lent = formula_fields(random, &formula);
+    format!("{lent} {}", answer_part(random, 10))
+}
+
+fn marks(random: &mut Random, turn: usize) -> String {
+    let formula = checked_formula(random, turn);
+    formula_fields(random, &formula)
+}
+
+fn set_fields(random: &mut Random, turn: usize) -> String {
+    let formula = checked_formula(random, turn);
+    let set = set(random, &formula.nodes, 60);
+    let lent = formula_fields(random, &formula);
+    format!("{lent} {}", input(random, &set))
+}
+
+/// A set for a formula: mostly drawn, sometimes the one that would be chosen.
+fn some_set(random: &mut Random, formula: &Formula) -> Vec<u8> {
+    if random.percent(20) {
+        let allowance = random.pick(&[1, 2, 1_024]);
+        if let Ok(nodes) = table::check(&formula.table, formula.options) {
+            let chosen = fast_choose(&nodes, allowance).set;
+            return chosen.into_iter().map(u8::from).collect();
         }
-        _ => None,
     }
+    set(random, &formula.nodes, 15)
 }
 
-/// A table as a request lends it. The nodes are what it was made of, before any fault of length.
-struct Formula {
-    nodes: Vec<Node>,
-    table: Vec<u8>,
-    options: u32,
+fn measure(random: &mut Random) -> String {
+    let formula = small_formula(random);
+    let set = some_set(random, &formula);
+    let lent = formula_fields(random, &formula);
+    let set = input(random, &set);
+    format!("{lent} {set} {}", answer_part(random, 4))
 }
 
-fn right_formula(random: &mut Random, count: usize) -> Formula {
-    let some = random.between(1, 32_000) as u32;
-    let few = random.between(2, 20) as u32;
-    let options = random.pick(&[0, 1, few, few, few, few, few, some, some, 32_000]);
-    let nodes = right(random, options, count);
-    let table = bytes(&nodes);
-    Formula {
-        nodes,
-        table,
-        options,
-    }
+fn choose(random: &mut Random) -> String {
+    let formula = small_formula(random);
+    let few = random.between(2, 6) as u32;
+    let allowance = random.pick(&[0, 1, 1, few, few, 1_023, 1_024, 1_024, 1_025, u32::MAX]);
+    let count = formula.nodes.len();
+    let length = match random.below(20) {
+        0 => 0,
+        1 => count - 1,
+        2 => count + 1,
+        3 => random.pick(&[MOST_NODES, 5 * count, 2 * count]),
+        _ => count,
+    };
+    let lent = input(random, &formula.table);
+    let set = output(random, length);
+    let answer = answer_part(random, 4);
+    format!("{} {allowance} {lent} {set} {answer}", formula.options)
 }
 
-/// A formula. Faults are drawn apart from each other, so that several meet in one request.
-fn formula(random: &mut Random) -> Formula {
-    let count = node_count(random);
-    let mut formula = right_formula(random, count);
-    let right_options = formula.options;
-    if random.percent(40) {
-        for _ in 0..random.pick(&[1, 1, 1, 3]) {
-            damage(random, right_options, &mut formula.nodes);
-        }
-        formula.table = bytes(&formula.nodes);
-    }
-    if random.percent(10) {
-        formula.table = wrong_length(random, right_options, &formula.nodes);
-    }
-    if random.percent(7) {
-        formula.options = too_many_options(random, right_options);
-    }
-    formula
-}
-
-/// An option count over 32,000.
-fn too_many_options(random: &mut Random, options: u32) -> u32 {
-    random.pick(&[
-        32_001,
-        32_001,
-        65_535,
-        65_536,
-        65_536 + options,
-        2_147_483_648,
-        u32::MAX,
-    ])
-}
-
-/// The bytes of a table that is empty, no whole number of nodes, or too long.
-fn wrong_length(random: &mut Random, options: u32, nodes: &[Node]) -> Vec<u8> {
-    let mut table = bytes(nodes);
-    let odd = random.between(1, 4);
-    match random.below(20) {
-        0..=7 => table.clear(),
-        8..=11 => table.truncate(table.len() - odd),
-        12..=15 => table.extend(vec![0; odd]),
-        16 => table = [bytes(&right(random, options, MOST_NODES)), vec![0; odd]].concat(),
-        17 | 18 => table = bytes(&right(random, options, MOST_NODES + 1)),
+fn convert_fields(random: &mut Random) -> String {
+    let formula = small_formula(random);
+    let set = some_set(random, &formula);
+    let out = match needed(&formula, &set) {
+        Some(bytes) if bytes <= LONG || random.percent(2) => room(random, bytes as usize),
+        // The buffer is short, or the conversion is refused before it is looked at.
         _ => {
-            let count = random.between(MOST_NODES + 2, 4 * MOST_NODES);
-            table = bytes(&right(random, options, count));
+            let length = random.pick(&[0, 4, 64, 4_000]);
+            output(random, length)
         }
-    }
-    table
+    };
+    let lent = formula_fields(random, &formula);
+    let set = input(random, &set);
+    format!("{lent} {set} {out} {}", answer_part(random, 4))
 }
 
-/// A set for the nodes: right, or at fault in its length or in one byte.
-fn set(random: &mut Random, nodes: &[Node]) -> Vec<u8> {
-    let density = random.pick(&[0, 20, 100]);
-    let may = may_be_renamed(nodes);
-    let mut set: Vec<u8> = may
-        .iter()
-        .map(|&may| u8::from(may && random.percent(density)))
-        .collect();
-    let number = random.below(set.len());
+/// The bytes of a conversion, where it is not refused.
+fn needed(formula: &Formula, set: &[u8]) -> Option<u64> {
+    let nodes = table::check(&formula.table, formula.options).ok()?;
+    let renamed = reference::set::check(&nodes, set).ok()?;
+    let size = convert::measure(&nodes, &renamed);
+    if size.clauses > 65_534 || size.literals > 999_999 {
+        return None;
+    }
+    Some(convert::room(size))
+}
+
+fn write_dimacs(random: &mut Random) -> String {
+    if random.below(500) == 0 {
+        return write_at_a_limit(random);
+    }
+    let mut variables = variable_count(random);
+    let mut bytes = clause_bytes::bytes(&clause_bytes::numbers(random, variables));
+    if random.percent(45) {
+        clause_bytes::damage(random, &mut variables, &mut bytes);
+    }
+    let needed = match dimacs_writer::text(&bytes, variables, usize::MAX) {
+        Ok((text, _)) => text.len(),
+        Err(_) => random.below(100),
+    };
+    let clauses = input(random, &bytes);
+    let text = room(random, needed);
+    format!("{variables} {clauses} {text} {}", answer_part(random, 4))
+}
+
+/// Clause bytes at the most clauses or literals, or one over.
+fn write_at_a_limit(random: &mut Random) -> String {
+    let zero = [0; 4];
+    let over = random.below(2);
+    let (clauses, needed) = match random.below(2) {
+        0 => {
+            let text = "p cnf 1 65534\n".len() + 2 * 65_534;
+            (input_in_parts(&[], &zero, 65_534 + over, &[]), text)
+        }
+        _ => {
+            let text = "p cnf 1 1\n".len() + 2 * 999_999 + 2;
+            let one = 1i32.to_le_bytes();
+            (input_in_parts(&[], &one, 999_999 + over, &zero), text)
+        }
+    };
+    let text = room(random, needed);
+    format!("1 {clauses} {text} 16")
+}
+
+fn read_dimacs(random: &mut Random) -> String {
+    if random.below(1_000) == 0 {
+        return read_at_a_limit(random);
+    }
+    let mut text = dimacs_text::right(random);
     match random.below(20) {
-        0 => set.clear(),
-        1 => set.truncate(number),
-        2 => set.push(random.pick(&[0, 1])),
-        3 => set.resize(MOST_NODES, 0),
-        4..=6 => set[number] = random.pick(&[2, 3, 128, 255]),
-        7..=10 => set[number] = 1,
-        11 => set[nodes.len() - 1] = 1,
-        _ => {}
-    }
-    set
-}
-
-/// For each node, whether its kind is 3 to 7, the root reaches it and it isn't the root.
-fn may_be_renamed(nodes: &[Node]) -> Vec<bool> {
-    let root = nodes.len() - 1;
-    let mut reached = vec![false; nodes.len()];
-    reached[root] = true;
-    for number in (0..nodes.len()).rev() {
-        for child in nodes[number].children() {
-            if child < number && reached[number] {
-                reached[child] = true;
+        0..=6 => {}
+        7 => text.bytes = dimacs_text::noise(random),
+        8..=17 => dimacs_text::damage(random, &mut text.bytes),
+        _ => {
+            for _ in 0..3 {
+                dimacs_text::damage(random, &mut text.bytes);
             }
         }
     }
-    let may =
-        |number: usize| number != root && reached[number] && (3..=7).contains(&nodes[number].kind);
-    (0..nodes.len()).map(may).collect()
+    let lent = input(random, &text.bytes);
+    let clauses = room(random, 4 * text.numbers);
+    format!("{lent} {clauses} {}", answer_part(random, 4))
 }
 
-fn input(random: &mut Random, bytes: &[u8]) -> String {
-    if bytes.is_empty() {
-        return random.pick(&["-", "="]).to_string();
-    }
-    bytes.iter().map(|byte| format!("{byte:02x}")).collect()
-}
-
-/// An answer part: mostly 16 bytes, else any length from 0 to 20.
-fn answer_part(random: &mut Random) -> String {
-    let length = if random.percent(10) {
-        random.between(0, 20)
-    } else {
-        16
+/// A text at the most clauses or literals, or one over, or with something wrong after the last.
+fn read_at_a_limit(random: &mut Random) -> String {
+    let over = random.below(2);
+    let last: &[u8] = random.pick(&[&b"0"[..], b"0\n", b"0 0", b"", b"-1 0", b"x", b"0 x"]);
+    let (text, numbers) = match random.below(2) {
+        0 => {
+            let header: &[u8] = b"c\np cnf 40000 65534\n";
+            (input_in_parts(header, b"0\r", 65_533 + over, last), 65_534)
+        }
+        _ => {
+            let header: &[u8] = b"p\tcnf 9 1 \n\n";
+            (
+                input_in_parts(header, b"9 ", 999_999 + over, last),
+                1_000_000,
+            )
+        }
     };
-    if length == 0 {
-        return random.pick(&["-", "0"]).to_string();
-    }
-    length.to_string()
+    let clauses = room(random, 4 * numbers);
+    format!("{text} {clauses} 16")
+}
+
+fn program(random: &mut Random) -> String {
+    let formula = match random.below(40) {
+        0 => any_formula(random),
+        _ => small_formula(random),
+    };
+    let text = node_file(random, &formula);
+    input(random, &text)
 }
 
 #[cfg(test)]
@@ -179,8 +236,10 @@ mod tests {
 
     #[test]
     fn a_seed_settles_the_requests() {
-        assert_eq!(requests(1, "check"), requests(1, "check"));
-        assert_ne!(requests(1, "check"), requests(2, "check"));
+        for operation in ["check", "choose", "convert", "write_dimacs", "read_dimacs"] {
+            assert_eq!(requests(1, operation), requests(1, operation));
+            assert_ne!(requests(1, operation), requests(2, operation));
+        }
     }
 
     #[test]
@@ -236,10 +295,12 @@ mod tests {
     }
 
     #[test]
-    fn the_root_and_unreached_nodes_may_not_be_renamed() {
-        let node = |kind, a, b| Node { kind, a, b };
-        let nodes = [node(1, 0, 0), node(3, 0, 0), node(3, 0, 0), node(4, 2, 0)];
-        assert_eq!(may_be_renamed(&nodes), [false, false, true, false]);
+    fn allowances_from_none_to_the_largest_are_asked() {
+        let requests = requests(1, "choose");
+        let allowances = fields(&requests, 2);
+        assert!(["0", "1", "2", "1024", "4294967295"]
+            .iter()
+            .all(|allowance| allowances.contains(allowance)));
     }
 
     #[test]

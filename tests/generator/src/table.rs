@@ -85,6 +85,55 @@ pub fn right(random: &mut Random, options: u32, count: usize) -> Vec<Node> {
         .collect()
 }
 
+/// A right table in which every operator meets constants, alone and shared.
+pub fn constants(random: &mut Random, options: u32, count: usize) -> Vec<Node> {
+    let often = random.pick(&[30, 60, 100]);
+    let mut nodes = right(random, options, count);
+    for node in nodes.iter_mut().filter(|node| node.kind <= 2) {
+        if random.percent(often) {
+            *node = Node {
+                kind: random.between(0, 1) as u8,
+                a: 0,
+                b: 0,
+            };
+        }
+    }
+    nodes
+}
+
+/// A right table whose root reaches all nodes: so many leaves, then operators over nodes that have no parent yet.
+pub fn reached(random: &mut Random, options: u32, leaves: usize) -> Vec<Node> {
+    let shared = random.pick(&[0, 10, 40]);
+    let nots = random.pick(&[0, 20]);
+    let mut nodes: Vec<Node> = (0..leaves)
+        .map(|_| right_node(random, Shape::Wide, 100, options, 0))
+        .collect();
+    let mut open: Vec<usize> = (0..leaves).collect();
+    while open.len() > 1 {
+        let a = open.swap_remove(random.below(open.len()));
+        let kind = match random.percent(nots) {
+            true => 3,
+            false => random.pick(&[4, 4, 5, 5, 6, 7]),
+        };
+        let b = match kind {
+            3 => 0,
+            _ if random.percent(shared) => random.below(nodes.len()),
+            _ => open.swap_remove(random.below(open.len())),
+        };
+        open.push(nodes.len());
+        let (a, b) = match kind {
+            3 => (a, b),
+            _ => random.pick(&[(a, b), (b, a)]),
+        };
+        nodes.push(Node {
+            kind,
+            a: a as u16,
+            b: b as u16,
+        });
+    }
+    nodes
+}
+
 /// A right node: a leaf in `leaves` of a hundred draws.
 fn right_node(
     random: &mut Random,
@@ -178,9 +227,23 @@ mod tests {
         let mut random = Random::new(1);
         for options in [0, 1, 7, 32_000] {
             for count in [1, 2, 3, 60, 1_024] {
-                let nodes = right(&mut random, options, count);
-                assert_eq!((nodes.len(), wrong_nodes(&nodes, options)), (count, 0));
+                for make in [right, constants] {
+                    let nodes = make(&mut random, options, count);
+                    assert_eq!((nodes.len(), wrong_nodes(&nodes, options)), (count, 0));
+                }
             }
+        }
+    }
+
+    #[test]
+    fn a_root_may_reach_all_nodes() {
+        let mut random = Random::new(5);
+        for leaves in 1..200 {
+            let nodes = reached(&mut random, 9, leaves % 20 + 1);
+            assert_eq!(wrong_nodes(&nodes, 9), 0);
+            let parents = nodes.iter().flat_map(|node| node.children());
+            let seen: std::collections::BTreeSet<usize> = parents.collect();
+            assert_eq!(seen.len(), nodes.len() - 1);
         }
     }
 

@@ -224,7 +224,7 @@ mod tests {
     fn dimacs_is_written_and_read() {
         assert_eq!(
             answer("write_dimacs 2 feffffff0000000000000000 20 16").unwrap(),
-            "0 7020636e66203220320a2d3220300a300a1b76d1 00000000000000000200000002000000"
+            "0 7020636e66203220320a2d3220300a300a106bc6 00000000000000000200000002000000"
         );
         assert_eq!(
             answer("read_dimacs 7020636e66203220320a2d3220300a300a 13 16").unwrap(),

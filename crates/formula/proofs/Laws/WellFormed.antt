@@ -8,13 +8,14 @@ use native.Mathlib.Omega.{arith}
 use lib.Dec.{eqb, leb, ltb}
 use lib.ListN.{length, List·getD-eq-default}
 use borrow.Author.Tests.{eqb-true, eqb-false, ltb-true, ltb-false, leb-true, not-false}
-use Rattle.answer.specs.declared.Answer.{Answer}
 use Rattle.answer.specs.declared.Answer.the-variants.{Accepted, TableLength, Options, Record}
-use Rattle.laws.proofs.First.{first-before}
+use Rattle.answer.specs.Numbers.{refuses}
+use Rattle.answer.proofs.Laws.Order.{passes}
+use Rattle.laws.proofs.First.{first-before, first-fails}
 use Rattle.formula.specs.Limits.{nodeBytes, mostNodes, mostOptions}
 use Rattle.formula.specs.Nodes.{nodeAt, nodeCount, nodesOf, nodeIn}
 use Rattle.formula.specs.Records.{known, useOfA, useOfB, fieldRight, faultOf}
-use Rattle.formula.specs.Checks.{lengthWrong, recordRight, firstWrong, checked}
+use Rattle.formula.specs.Checks.{RightLength, lengthWrong, recordRight, firstWrong, checked}
 use Rattle.formula.specs.declared.node.Kind.{Kind}
 use Rattle.formula.specs.declared.node.Kind.the-variants.{Symbol}
 use Rattle.formula.specs.declared.node.Node.{Node}
@@ -37,25 +38,39 @@ pub record WellFormed (v : ℕ) (ns : List Node) : Type 0 where
   pub below : (i : ℕ) → Below i (nodeIn ns i)
   pub symbols : (i : ℕ) → nodeIn ns i .kind ≡ Symbol → (0 < nodeIn ns i .a) × (nodeIn ns i .a ≤ v)
 
--- a test that did not refuse
-passed : (b : Bool) (refusal rest : Answer) (x y : ℕ) → (refusal ≡ Accepted x y → ⊥) → cond b refusal rest ≡ Accepted x y → (b ≡ false) × (rest ≡ Accepted x y)
-passed true refusal rest x y n e = absurd (n e)
-passed false refusal rest x y n e = (refl, e)
-
 pub record Accepts (t : List ℕ) (v : ℕ) : Type 0 where
   pub lengths : lengthWrong (length t) ≡ false
   pub options : v ≤ mostOptions
   pub records : (i : ℕ) → i < nodeCount t → faultOf v i (nodeAt t i) ≡ 0
 
+-- the three tests of a check that does not refuse
+record Passed (t : List ℕ) (v : ℕ) : Type 0 where
+  lengths : lengthWrong (length t) ≡ false
+  options : ltb mostOptions v ≡ false
+  records : ltb (firstWrong t v) (nodeCount t) ≡ false
+
+passed : (t : List ℕ) (v : ℕ) → refuses (checked t v) ≡ false → Passed t v
+passed t v e =
+    let wrong : ltb (firstWrong t v) (nodeCount t) ≡ true → refuses (Record (faultOf v (firstWrong t v) (nodeAt t (firstWrong t v))) (firstWrong t v)) ≡ true =
+    λ p. ap not (first-fails (recordRight t v) (nodeCount t) (ltb-true (firstWrong t v) (nodeCount t) p)) in
+    let e₁ = passes (lengthWrong (length t)) TableLength _ (λ p. refl) e in
+    let e₂ = passes (ltb mostOptions v) Options _ (λ p. refl) (e₁ .1) in
+    let e₃ = passes (ltb (firstWrong t v) (nodeCount t)) _ (Accepted 0 0) wrong (e₂ .1) in
+    record { lengths = e₁ .0; options = e₂ .0; records = e₃ .0 }
+
+-- a check that does not refuse accepts, with two zeros
+pub checked-accepted : (t : List ℕ) (v : ℕ) → refuses (checked t v) ≡ false → checked t v ≡ Accepted 0 0
+checked-accepted t v e =
+    let p : Passed t v = passed t v e in
+    rw (p .lengths, p .options, p .records)
+
 pub accepts : (t : List ℕ) (v x y : ℕ) → checked t v ≡ Accepted x y → Accepts t v
 accepts t v x y e =
-    let e₁ = passed (lengthWrong (length t)) TableLength _ x y (λ q. let z : _≡_ {A = ℕ} 0 1 = cc in omega arith) e in
-    let e₂ = passed (ltb mostOptions v) Options _ x y (λ q. let z : _≡_ {A = ℕ} 0 1 = cc in omega arith) (e₁ .1) in
-    let e₃ = passed (ltb (firstWrong t v) (nodeCount t)) _ _ x y (λ q. let z : _≡_ {A = ℕ} 0 1 = cc in omega arith) (e₂ .1) in
-    let all : nodeCount t ≤ firstWrong t v = ltb-false (firstWrong t v) (nodeCount t) (e₃ .0) in
+    let p : Passed t v = passed t v (ap refuses e) in
+    let all : nodeCount t ≤ firstWrong t v = ltb-false (firstWrong t v) (nodeCount t) (p .records) in
     record {
-      lengths = e₁ .0;
-      options = ltb-false mostOptions v (e₂ .0);
+      lengths = p .lengths;
+      options = ltb-false mostOptions v (p .options);
       records = λ i h. eqb-true (faultOf v i (nodeAt t i)) 0 (first-before (recordRight t v) (nodeCount t) i (omega arith));
     }
 
@@ -64,11 +79,6 @@ none-of : (a b : Bool) → (a || b) ≡ false → (a ≡ false) × (b ≡ false)
 none-of true b e = let z : _≡_ {A = ℕ} 0 1 = cc in absurd (omega arith)
 none-of false b e = (refl, e)
 
-pub record RightLength (n : ℕ) : Type 0 where
-  pub some : 0 < n / nodeBytes
-  pub even : n % nodeBytes ≡ 0
-  pub most : n ≤ nodeBytes * mostNodes
-
 pub right-length : (n : ℕ) → lengthWrong n ≡ false → RightLength n
 right-length n e =
     let empty = none-of (eqb n 0) (not (eqb (n % nodeBytes) 0) || ltb (nodeBytes * mostNodes) n) e in
@@ -76,6 +86,10 @@ right-length n e =
     let z = eqb-false n 0 (empty .0) in
     let even : n % nodeBytes ≡ 0 = eqb-true (n % nodeBytes) 0 (not-false (eqb (n % nodeBytes) 0) (uneven .0)) in
     record { some = omega arith; even = even; most = ltb-false (nodeBytes * mostNodes) n (uneven .1) }
+
+-- the length of a table whose check does not refuse
+pub length-right : (t : List ℕ) (v : ℕ) → refuses (checked t v) ≡ false → RightLength (length t)
+length-right t v e = right-length (length t) (passed t v e .lengths)
 
 -- what a right record says
 right-record : (v i : ℕ) (n : Node) → faultOf v i n ≡ 0 → (fieldRight v i (useOfA (n .kind)) (n .a) ≡ true) × (fieldRight v i (useOfB (n .kind)) (n .b) ≡ true)

@@ -1,0 +1,338 @@
+//! Totals, conversion and both ways of choosing, against lists made as the rules write them.
+
+use reference::answer::Refusal;
+use reference::choose::choose;
+use reference::convert::{clause_bytes, each_clause, measure};
+use reference::fast_choose::fast_choose;
+use reference::lists::Lists;
+use reference::polarity::marks;
+use reference::set::may_be_renamed;
+use reference::table::Node;
+use reference::totals::{rows, Size};
+use Node::*;
+
+type Clauses = Vec<Vec<i32>>;
+
+fn join(left: &Clauses, right: &Clauses) -> Clauses {
+    let with = |clause: &Vec<i32>| -> Clauses {
+        right
+            .iter()
+            .map(|other| [&clause[..], &other[..]].concat())
+            .collect()
+    };
+    left.iter().flat_map(with).collect()
+}
+
+/// P and N of every node, whole. For small tables alone.
+fn whole(nodes: &[Node], helpers: &[i32]) -> Vec<(Clauses, Clauses)> {
+    let mut all: Vec<(Clauses, Clauses)> = vec![];
+    for &node in nodes {
+        let seen = |child: usize| match helpers[child] {
+            0 => all[child].clone(),
+            helper => (vec![vec![helper]], vec![vec![-helper]]),
+        };
+        let lists = match node {
+            False => (vec![vec![]], vec![]),
+            True => (vec![], vec![vec![]]),
+            Symbol(s) => (vec![vec![i32::from(s)]], vec![vec![-i32::from(s)]]),
+            Not(a) => (seen(a).1, seen(a).0),
+            And(a, b) => (
+                [seen(a).0, seen(b).0].concat(),
+                join(&seen(a).1, &seen(b).1),
+            ),
+            Or(a, b) => (
+                join(&seen(a).0, &seen(b).0),
+                [seen(a).1, seen(b).1].concat(),
+            ),
+            Implies(a, b) => (
+                join(&seen(a).1, &seen(b).0),
+                [seen(a).0, seen(b).1].concat(),
+            ),
+            Equivalent(a, b) => (
+                [join(&seen(a).1, &seen(b).0), join(&seen(b).1, &seen(a).0)].concat(),
+                [join(&seen(a).1, &seen(b).1), join(&seen(a).0, &seen(b).0)].concat(),
+            ),
+        };
+        all.push(lists);
+    }
+    all
+}
+
+/// The whole output, made from whole lists.
+fn output(nodes: &[Node], options: u32, renamed: &[bool]) -> Clauses {
+    let mut helpers = vec![0; nodes.len()];
+    let mut last = options as i32;
+    for node in (0..nodes.len()).filter(|&node| renamed[node]) {
+        last += 1;
+        helpers[node] = last;
+    }
+    let (lists, marks) = (whole(nodes, &helpers), marks(nodes));
+    let mut all = lists[nodes.len() - 1].0.clone();
+    for node in (0..nodes.len()).filter(|&node| renamed[node]) {
+        if marks[node].positive {
+            all.extend(join(&vec![vec![-helpers[node]]], &lists[node].0));
+        }
+        if marks[node].negative {
+            all.extend(join(&lists[node].1, &vec![vec![helpers[node]]]));
+        }
+    }
+    all
+}
+
+fn converted(nodes: &[Node], options: u32, renamed: &[bool]) -> Clauses {
+    let mut all = vec![];
+    each_clause(nodes, options, renamed, |clause| all.push(clause.to_vec()));
+    all
+}
+
+fn size(clauses: &Clauses) -> Size {
+    Size {
+        clauses: clauses.len() as u64,
+        literals: clauses.iter().map(|clause| clause.len() as u64).sum(),
+    }
+}
+
+/// Numbers drawn by xorshift.
+struct Random(u64);
+
+impl Random {
+    fn below(&mut self, end: usize) -> usize {
+        self.0 ^= self.0 << 13;
+        self.0 ^= self.0 >> 7;
+        self.0 ^= self.0 << 17;
+        (self.0 >> 11) as usize % end
+    }
+}
+
+fn table(random: &mut Random, count: usize) -> Vec<Node> {
+    let shared = random.below(2) == 0;
+    (0..count)
+        .map(|number| {
+            let child = |random: &mut Random| match shared {
+                true => number - 1 - random.below(number.min(3)),
+                false => random.below(number),
+            };
+            match random.below(if number == 0 { 3 } else { 11 }) {
+                0 => False,
+                1 => True,
+                2 => Symbol(1 + random.below(5) as u16),
+                3 | 4 => Not(child(random)),
+                5 | 6 => And(child(random), child(random)),
+                7 | 8 => Or(child(random), child(random)),
+                9 => Implies(child(random), child(random)),
+                _ => Equivalent(child(random), child(random)),
+            }
+        })
+        .collect()
+}
+
+fn some_set(random: &mut Random, nodes: &[Node]) -> Vec<bool> {
+    let often = 1 + random.below(4);
+    let may = may_be_renamed(nodes);
+    may.into_iter()
+        .map(|may| may && random.below(often) == 0)
+        .collect()
+}
+
+/// Whether whole lists of all nodes are small enough to make.
+fn is_small(nodes: &[Node], renamed: &[bool]) -> bool {
+    let rows = rows(&Lists::new(nodes), renamed);
+    rows.iter()
+        .flatten()
+        .all(|size| size.clauses < 3_000 && size.literals < 30_000)
+}
+
+#[test]
+fn totals_and_clauses_are_those_of_the_whole_lists() {
+    let mut random = Random(88_172_645_463_325_252);
+    let mut compared = 0;
+    for turn in 0..6_000 {
+        let nodes = table(&mut random, 1 + turn % 14);
+        let renamed = some_set(&mut random, &nodes);
+        if !is_small(&nodes, &renamed) {
+            continue;
+        }
+        compared += 1;
+        let whole = output(&nodes, 7, &renamed);
+        assert_eq!(
+            measure(&nodes, &renamed),
+            size(&whole),
+            "{nodes:?} {renamed:?}"
+        );
+        assert_eq!(
+            converted(&nodes, 7, &renamed),
+            whole,
+            "{nodes:?} {renamed:?}"
+        );
+    }
+    assert!(compared > 3_000, "{compared}");
+}
+
+#[test]
+fn both_ways_of_choosing_agree() {
+    let mut random = Random(362_436_069);
+    let mut picked = 0;
+    for turn in 0..4_000 {
+        let nodes = table(&mut random, 1 + turn % 60);
+        for allowance in [0, 1, 2, 5, u32::MAX] {
+            let choice = choose(&nodes, allowance);
+            assert_eq!(
+                fast_choose(&nodes, allowance),
+                choice,
+                "{allowance} {nodes:?}"
+            );
+            assert!(choice.picks <= allowance);
+            picked += choice.picks;
+        }
+    }
+    assert!(picked > 2_000, "{picked}");
+}
+
+#[test]
+fn both_ways_of_choosing_agree_on_1024_nodes() {
+    let mut random = Random(521_288_629);
+    for _ in 0..6 {
+        let nodes = table(&mut random, 1_024);
+        assert_eq!(fast_choose(&nodes, 1_024), choose(&nodes, 1_024));
+    }
+}
+
+/// A larger allowance renames at least the smaller one's nodes, and its total is not higher.
+#[test]
+fn a_larger_allowance_only_adds() {
+    let mut random = Random(2_463_534_242);
+    for _ in 0..300 {
+        let nodes = table(&mut random, 30);
+        let choices: Vec<_> = (0..8).map(|allowance| choose(&nodes, allowance)).collect();
+        for pair in choices.windows(2) {
+            assert!(pair[1].total <= pair[0].total);
+            assert!(pair[0]
+                .set
+                .iter()
+                .zip(&pair[1].set)
+                .all(|(less, more)| !less || *more));
+        }
+    }
+}
+
+#[test]
+fn a_chosen_total_is_that_of_the_output() {
+    let mut random = Random(675_248);
+    for _ in 0..500 {
+        let nodes = table(&mut random, 25);
+        let choice = choose(&nodes, 1_024);
+        assert_eq!(choice.total, measure(&nodes, &choice.set).shown_clauses());
+        let picks = choice.set.iter().filter(|&&renamed| renamed).count();
+        assert_eq!(choice.picks as usize, picks);
+    }
+}
+
+fn twice(first: Node, node: fn(usize, usize) -> Node, times: usize) -> Vec<Node> {
+    let mut nodes = vec![first];
+    nodes.extend((0..times).map(|below| node(below, below)));
+    nodes
+}
+
+fn shown(nodes: &[Node]) -> (u32, u32) {
+    let size = measure(nodes, &vec![false; nodes.len()]);
+    (size.shown_clauses(), size.shown_literals())
+}
+
+fn refused(nodes: &[Node]) -> Option<Refusal> {
+    clause_bytes(nodes, 1, &vec![false; nodes.len()], usize::MAX).err()
+}
+
+#[test]
+fn at_the_clause_ceiling_no_literal_total_is_stated() {
+    assert_eq!(shown(&twice(False, And, 15)), (32_768, 0));
+    assert_eq!(shown(&twice(False, And, 16)), (65_535, 1_000_000));
+    assert_eq!(shown(&twice(Symbol(1), And, 16)), (65_535, 1_000_000));
+    assert_eq!(shown(&twice(Symbol(1), Or, 20)), (1, 1_000_000));
+}
+
+#[test]
+fn a_huge_total_joined_with_true_is_nothing() {
+    for node in [And, Or, Equivalent] {
+        let mut nodes = twice(Symbol(1), node, 1_000);
+        nodes.push(True);
+        nodes.push(Or(1_000, 1_001));
+        assert_eq!(shown(&nodes), (0, 0));
+        assert_eq!(
+            converted(&nodes, 1, &vec![false; nodes.len()]),
+            Clauses::new()
+        );
+        nodes.push(And(0, 1_002));
+        assert_eq!(converted(&nodes, 1, &vec![false; nodes.len()]), [[1]]);
+    }
+}
+
+#[test]
+fn a_huge_total_is_refused_by_clauses_before_literals() {
+    assert_eq!(
+        refused(&twice(Symbol(1), Equivalent, 1_023)),
+        Some(Refusal::new(5))
+    );
+    assert_eq!(refused(&twice(Symbol(1), Or, 1_023)), Some(Refusal::new(6)));
+}
+
+#[test]
+fn shared_constants_are_not_walked_again_and_again() {
+    let none: Vec<bool> = vec![false; 1_024];
+    assert_eq!(converted(&twice(False, Or, 1_023), 0, &none), [vec![]]);
+    let mut nodes = twice(False, Or, 1_021);
+    nodes.push(Symbol(1));
+    nodes.push(Or(1_021, 1_022));
+    assert_eq!(converted(&nodes, 1, &none), [[1]]);
+    // Empty clauses, one after the other.
+    let many = twice(False, And, 12);
+    assert_eq!(converted(&many, 0, &none[..13]), vec![vec![]; 4_096]);
+}
+
+#[test]
+fn helpers_are_counted_from_the_option_count() {
+    let nodes = [Symbol(1), Not(0), Not(1), Not(2), Not(3)];
+    let renamed = [false, true, false, true, false];
+    assert_eq!(
+        converted(&nodes, 10, &renamed),
+        [vec![-12], vec![1, 11], vec![-11, 12]]
+    );
+}
+
+#[test]
+fn a_definition_is_written_where_its_helper_occurs_nowhere_else() {
+    // Node 2 is only seen through node 3, which is joined with true.
+    let nodes = [Symbol(1), True, Not(0), And(2, 0), Or(3, 1)];
+    let renamed = [false, false, true, false, false];
+    assert_eq!(converted(&nodes, 1, &renamed), [[-2, -1]]);
+}
+
+#[test]
+fn a_node_of_both_polarities_gives_two_halves() {
+    let nodes = [Symbol(1), Symbol(2), And(0, 1), Equivalent(2, 0)];
+    let renamed = [false, false, true, false];
+    assert_eq!(
+        converted(&nodes, 2, &renamed),
+        [
+            vec![-3, 1],
+            vec![-1, 3],
+            vec![-3, 1],
+            vec![-3, 2],
+            vec![-1, -2, 3]
+        ]
+    );
+}
+
+#[test]
+fn totals_that_tie_are_not_renamed_and_the_ceiling_hides_a_change() {
+    let nodes = [Symbol(1), Symbol(2), And(0, 1), And(1, 0), Or(2, 3)];
+    assert_eq!(choose(&nodes, 9).picks, 0);
+    // Forty conjunctions of two symbols in one disjunction: one renaming leaves the ceiling as it is.
+    let mut many: Vec<Node> = vec![Symbol(1), Symbol(2), And(0, 1)];
+    for _ in 0..39 {
+        many.push(And(0, 1));
+        let last = many.len() - 1;
+        many.push(Or(last - 1, last));
+    }
+    let choice = choose(&many, u32::MAX);
+    assert_eq!((choice.picks, choice.total), (0, 65_535));
+}
