@@ -10,6 +10,8 @@ import entries
 TESTS = pathlib.Path(__file__).resolve().parent
 BUILT = TESTS.parent / "target" / "tests"
 ARCHIVE = TESTS.parent / "target" / "staticlib" / "libhost.a"
+# Buffers over this length are shown by their hash.
+LONGEST_SHOWN = 4096
 # How many differences are printed.
 SHOWN = 5
 
@@ -35,18 +37,24 @@ def ask(program, requests):
     return answers, True
 
 
-def compare(requests):
-    """Asks both programs and prints where they differ. Gives the reference's answers, how many differ,
-    and whether both programs ended well."""
-    expected, reference_ended = ask("reference", requests)
-    answers, driver_ended = ask("driver", requests)
+def show_differences(program, requests, expected, answers):
+    """Prints the first differences between a program's answers and the reference's. Gives how many there are."""
     turns = itertools.zip_longest(requests, expected, answers, fillvalue="no answer")
     differ = [turn for turn in enumerate(turns, 1) if turn[1][1] != turn[1][2]]
     for number, (request, mine, theirs) in differ[:SHOWN]:
         print(f"request {number}: {shorten(request)}")
         print(f"  reference: {shorten(mine)}")
-        print(f"  driver:    {shorten(theirs)}")
-    return expected, len(differ), reference_ended and driver_ended
+        print(f"  {program + ':':10} {shorten(theirs)}")
+    return len(differ)
+
+
+def compare(requests):
+    """Asks the reference and the driver, and prints where they differ. Gives the reference's answers, how many
+    differ, and whether both ended well."""
+    expected, reference_ended = ask("reference", requests)
+    answers, driver_ended = ask("driver", requests)
+    differ = show_differences("driver", requests, expected, answers)
+    return expected, differ, reference_ended and driver_ended
 
 
 def generate(seed, count, operations):
@@ -55,6 +63,26 @@ def generate(seed, count, operations):
     if run.returncode != 0:
         sys.exit("the requests were not generated")
     return run.stdout.splitlines()
+
+
+def from_parts(field):
+    """The bytes of a lent input."""
+    if field in ("-", "="):
+        return b""
+    parts = (part.partition("*") for part in field.split("+"))
+    return b"".join(bytes.fromhex(part) * int(times or 1) for part, _, times in parts)
+
+
+def shown(data):
+    """A buffer as an answer shows it."""
+    if not data:
+        return "-"
+    if len(data) <= LONGEST_SHOWN:
+        return data.hex()
+    value = 14695981039346656037
+    for byte in data:
+        value = (value ^ byte) * 1099511628211 % 2**64
+    return f"#{len(data)}:{value:016x}"
 
 
 def shorten(line):

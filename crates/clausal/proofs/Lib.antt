@@ -11,6 +11,7 @@ pub mod Every
 pub mod Names
 pub mod Ceilings
 pub mod Totals
+pub mod Options
 pub mod Counts
 pub mod Truths
 pub mod Extended

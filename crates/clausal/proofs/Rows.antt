@@ -1,5 +1,6 @@
 -- The row equation: a node's row is the rule at its children's rows, as they are seen; and the rows made first stay.
 -- Assumes nothing.
+use Rattle.formula.specs.Records.{Below}
 use mathlib.Core.Path.{_≡_, refl, sym, ap, _∙_, subst}
 use mathlib.Core.Bool.{Bool, true, false}
 use mathlib.Core.List.{List}
@@ -17,7 +18,6 @@ use Rattle.formula.specs.Paths.{has}
 use Rattle.formula.specs.declared.mark.Mark.{Mark}
 use Rattle.formula.specs.declared.node.Node.{Node}
 use Rattle.formula.proofs.Laws.Marks.{unmarked-has, Passed, passed}
-use Rattle.formula.proofs.Laws.WellFormed.{Below}
 use Rattle.clausal.specs.Algebra.{Algebra, Row, noRow, rowBy}
 use Rattle.clausal.specs.Rows.{seen, rowFrom, rowsOf, rowOf}
 use Rattle.clausal.proofs.Related.{Keeps, Under, both, under-by}

@@ -11,12 +11,11 @@ use lib.Seq.{getD-take}
 use Rattle.laws.specs.Upward.{upTo}
 use Rattle.laws.proofs.Upward.{take-upTo, getD-upTo}
 use Rattle.formula.specs.Nodes.{nodeIn}
-use Rattle.formula.specs.Records.{known}
+use Rattle.formula.specs.Records.{known, Below}
 use Rattle.formula.specs.Truths.{truthBy, truthFrom, truthsOf, truthOf}
 use Rattle.formula.specs.declared.node.Kind.{Kind}
 use Rattle.formula.specs.declared.node.Kind.the-variants.{False, True, Symbol, Not, And, Or, Implies, Equivalent, Unknown}
 use Rattle.formula.specs.declared.node.Node.{Node}
-use Rattle.formula.proofs.Laws.WellFormed.{Below}
 use Rattle.clausal.specs.Algebra.{Row, rowBy, joinAll, clauses}
 use Rattle.clausal.specs.Literals.{Clause}
 use Rattle.clausal.specs.Output.{wholeOf, outputOf}

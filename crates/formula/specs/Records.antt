@@ -1,8 +1,10 @@
 -- "The formula table": what a record's fields hold, by its kind, and the rule of a record.
 -- Assumes nothing: these are definitions.
 use mathlib.Core.Bool.{Bool, true, false, cond, _&&_}
-use Prim.Native.Nat.{ℕ}
+use mathlib.Core.List.{List}
+use Prim.Native.Nat.{ℕ, _<_}
 use lib.Dec.{eqb, leb, ltb}
+use Rattle.formula.specs.Nodes.{nodeIn}
 use Rattle.formula.specs.declared.node.Kind.{Kind}
 use Rattle.formula.specs.declared.node.Kind.the-variants as kind
 use Rattle.formula.specs.declared.node.Node.{Node}
@@ -59,3 +61,17 @@ faultOf v i n =
     (cond (fieldRight v i (useOfB (n .kind)) (n .b)) 0 3)
     3)
     3
+
+-- a field that holds a child is below i
+abbrev pub FieldBelow : ℕ → Use → ℕ → Type 0
+FieldBelow i held.Unused x = Unit {0}
+FieldBelow i held.Child x = x < i
+FieldBelow i held.Symbol x = Unit {0}
+
+-- the children of node i are below it
+abbrev pub Below : ℕ → Node → Type 0
+Below i n = FieldBelow i (useOfA (n .kind)) (n .a) × FieldBelow i (useOfB (n .kind)) (n .b)
+
+-- "A child's number is below its parent's", for all nodes
+abbrev pub ChildrenBelow : List Node → Type 0
+ChildrenBelow ns = (i : ℕ) → Below i (nodeIn ns i)

@@ -1,17 +1,27 @@
--- Any two results that an entry's promise allows are equal, and so is each lent byte afterwards.
--- Stated of the promises as the check reads them: `Reads.Post` of each entry.
+-- Any two results that a promise of this crate allows are equal, and so is each lent byte afterwards.
+-- Stated of the promises as the check reads them: `Reads.Post` of each public function.
 -- Assumes nothing.
-use mathlib.Core.Path.{_≡_, ap, sym, _∙_}
+use mathlib.Core.Path.{_≡_, sym, _∙_, ap}
+use Rattle.answer.specs.Part.{Given, Left}
 use contract.Lifetimes.{Lfts}
 use denote.Ref.{now}
 use denote.Triple.Clauses.{AtExit}
 use borrow.Fn.Kinds.{Dens, endedOf, resT}
-use Rattle.answer.specs.Part.{Given}
 use Rattle.host.proofs.simbolufa_check.Kinds as check-kinds
 use Rattle.host.proofs.simbolufa_check.Reads as check
+use Rattle.host.proofs.simbolufa_measure.Kinds as measure-kinds
+use Rattle.host.proofs.simbolufa_measure.Reads as measure
+use Rattle.host.proofs.simbolufa_choose.Kinds as choose-kinds
+use Rattle.host.proofs.simbolufa_choose.Reads as choose
 
 pub check-settled : (κs : Lfts 2) (a : Dens κs check-kinds.ps) (r q : resT check-kinds.r κs .Denot) (s t : AtExit (endedOf 2 check-kinds.ps check-kinds.r) κs)
     → check.Post κs a r s → check.Post κs a q t → (r ≡ q) × (now (s .1 .1 .0) ≡ now (t .1 .1 .0))
-check-settled κs a r q s t e f =
-    let same = e ∙ sym f in
-    (ap (λ (g : Given). g .result) same, ap (λ (g : Given). g .part) same)
+check-settled κs a r q s t e f = let same = e ∙ sym f in (ap (λ (g : Given). g .result) same, ap (λ (g : Given). g .part) same)
+
+pub measure-settled : (κs : Lfts 3) (a : Dens κs measure-kinds.ps) (r q : resT measure-kinds.r κs .Denot) (s t : AtExit (endedOf 3 measure-kinds.ps measure-kinds.r) κs)
+    → measure.Post κs a r s → measure.Post κs a q t → (r ≡ q) × (now (s .1 .1 .1 .0) ≡ now (t .1 .1 .1 .0))
+measure-settled κs a r q s t e f = let same = e ∙ sym f in (ap (λ (g : Given). g .result) same, ap (λ (g : Given). g .part) same)
+
+pub choose-settled : (κs : Lfts 3) (a : Dens κs choose-kinds.ps) (r q : resT choose-kinds.r κs .Denot) (s t : AtExit (endedOf 3 choose-kinds.ps choose-kinds.r) κs)
+    → choose.Post κs a r s → choose.Post κs a q t → (r ≡ q) × (now (s .1 .1 .1 .0) ≡ now (t .1 .1 .1 .0)) × (now (s .1 .1 .1 .1 .0) ≡ now (t .1 .1 .1 .1 .0))
+choose-settled κs a r q s t e f = let same = e ∙ sym f in (ap (λ (l : Left). l .result) same, ap (λ (l : Left). l .output) same, ap (λ (l : Left). l .part) same)

@@ -1,7 +1,10 @@
 // The entries that a host calls, and nothing else. Each looks first at its answer part.
 ghost use mathlib.Core.Path.{_≡_};
-ghost use Rattle.answer.specs.Part.{called};
+ghost use Rattle.answer.specs.Part.{called, leaves};
 ghost use Rattle.formula.specs.Checks.{checked};
+ghost use Rattle.totals.specs.Measured.{measured};
+ghost use Rattle.choose.specs.Chosen.{chosenBy};
+use answer::give;
 
 // Checks a formula table for a project of `options` options.
 #[no_mangle]
@@ -11,5 +14,38 @@ pub extern "C" fn simbolufa_check(table: &[u8], options: u32, answer: &mut [u8])
     if answer.len() != 16 {
         return 11;
     }
-    answer::give(formula::table::check(table, options), answer)
+    give(formula::table::check(table, options), answer)
+}
+
+// Checks a table and a set, and gives the clause and the literal total, each read at its ceiling.
+#[no_mangle]
+pub extern "C" fn simbolufa_measure(
+    table: &[u8],
+    options: u32,
+    set: &[u8],
+    answer: &mut [u8],
+) -> u32
+    ensures { λ r. ⌜ record { result = r; part = now (answer .exit) } ≡ called (now (answer .entry)) (measured (now (table .entry)) options (now (set .entry))) ⌝ }
+{
+    if answer.len() != 16 {
+        return 11;
+    }
+    give(totals::measure::measure(table, options, set), answer)
+}
+
+// Checks a table, and writes the set of nodes to rename under an allowance: picks and final total are reported.
+#[no_mangle]
+pub extern "C" fn simbolufa_choose(
+    table: &[u8],
+    options: u32,
+    allowance: u32,
+    set: &mut [u8],
+    answer: &mut [u8],
+) -> u32
+    ensures { λ r. ⌜ record { result = r; output = now (set .exit); part = now (answer .exit) } ≡ leaves (now (answer .entry)) (now (set .entry)) (chosenBy (now (table .entry)) options allowance (now (set .entry))) ⌝ }
+{
+    if answer.len() != 16 {
+        return 11;
+    }
+    give(choose::pass::choose(table, options, allowance, set), answer)
 }

@@ -1,2 +1,3 @@
 -- Laws and theorems of the totals.
 pub mod Laws
+pub mod NoChoice

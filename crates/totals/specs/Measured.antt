@@ -11,10 +11,10 @@ use Rattle.formula.specs.Sets.{setChecked}
 use Rattle.formula.specs.declared.node.Node.{Node}
 use Rattle.clausal.specs.Totals.{totals}
 
--- refusal 4, then the clause and the literal total, each read at its ceiling; no total depends on V
-abbrev pub measuredUnder : List Node → List ℕ → Answer
-measuredUnder ns s = after (setChecked ns s) (Accepted (totals 0 s ns .clauses) (totals 0 s ns .literals))
+-- refusal 4, then the clause and the literal total, each read at its ceiling
+abbrev pub measuredUnder : ℕ → List Node → List ℕ → Answer
+measuredUnder v ns s = after (setChecked ns s) (Accepted (totals v s ns .clauses) (totals v s ns .literals))
 
 -- refusals 1 to 3 first
 abbrev pub measured : List ℕ → ℕ → List ℕ → Answer
-measured t v s = after (checked t v) (measuredUnder (nodesOf t) s)
+measured t v s = after (checked t v) (measuredUnder v (nodesOf t) s)

@@ -35,7 +35,7 @@ fn totals_under(table: &[u8], marks: &[u8], set: &[u8]) -> Total
 // Checks a set for a table that is right, and gives the totals.
 fn measure_under(table: &[u8], set: &[u8]) -> Answer
     requires { ⌜ RightLength (length (now table)) ⌝ }
-    ensures { λ r. ⌜ r ≡ measuredUnder (nodesOf (now (table .entry))) (now (set .entry)) ⌝ }
+    ensures { λ r. ⌜ r ≡ measuredUnder 0 (nodesOf (now (table .entry))) (now (set .entry)) ⌝ }
 {
     let marks = marks(table);
     let right = formula::set::check(table, &marks, set);

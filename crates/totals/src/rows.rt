@@ -76,7 +76,7 @@ fn row_by(node: Node, x: Row, y: Row) -> Row
 }
 
 // The entry of a node, 0 past the end.
-fn entry(column: &[u32], i: usize) -> u32
+pub fn entry(column: &[u32], i: usize) -> u32
     ensures { λ r. ⌜ r ≡ getD (now (column .entry)) i 0 ⌝ }
 {
     if i < column.len() { column[i] } else { 0 }

@@ -122,8 +122,8 @@ fn take_numbers(cursor: &mut Cursor, variables: u32, clauses: u32) -> Result<Vec
         }
         is_parted = false;
     }
-    let is_closed = numbers.last().map_or(true, |&number| number == 0);
-    if cursor.next().is_some() || closed != clauses || !is_closed {
+    // No literal is taken after the last declared clause. So where one is left unclosed, a clause is missing.
+    if cursor.next().is_some() || closed != clauses {
         return cursor.refused();
     }
     Ok(numbers)

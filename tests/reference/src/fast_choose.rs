@@ -2,14 +2,15 @@
 //!
 //! Nodes are tried from the highest down. A child's number is below its parent's, so renaming a node
 //! changes no total of the nodes up to it, and of the nodes up to it none but itself is renamed yet.
-//! So a trial fills only the totals above the node, and adds only their definitions.
+//! So a trial fills only the totals above the node, and adds only their definitions. Leaves and nodes that
+//! the root doesn't reach are filled once.
 
 use crate::choose::Choice;
 use crate::polarity::{marks, Mark};
-use crate::set::may_be_renamed;
 use crate::table::Node;
 
 const CEILING: u32 = 65_535;
+const MOST_NODES: usize = 1_024;
 
 /// The clause totals of P and N, at the ceiling.
 #[derive(Clone, Copy)]
@@ -21,6 +22,9 @@ struct Row {
 /// How a node shows to its parents where it is renamed.
 const HELPER: Row = Row { p: 1, n: 1 };
 
+/// What parents see of each node.
+type Seen = [Row; MOST_NODES];
+
 fn add(left: u32, right: u32) -> u32 {
     (left + right).min(CEILING)
 }
@@ -30,66 +34,125 @@ fn join(left: u32, right: u32) -> u32 {
     (left * right).min(CEILING)
 }
 
-fn row(node: Node, seen: &[Row]) -> Row {
-    let (p, n) = match node {
-        Node::False => (1, 0),
-        Node::True => (0, 1),
-        Node::Symbol(_) => (1, 1),
-        Node::Not(a) => (seen[a].n, seen[a].p),
-        Node::And(a, b) => (add(seen[a].p, seen[b].p), join(seen[a].n, seen[b].n)),
-        Node::Or(a, b) => (join(seen[a].p, seen[b].p), add(seen[a].n, seen[b].n)),
-        Node::Implies(a, b) => (join(seen[a].n, seen[b].p), add(seen[a].p, seen[b].n)),
-        Node::Equivalent(a, b) => {
-            let (a, b) = (seen[a], seen[b]);
-            (
-                add(join(a.n, b.p), join(b.n, a.p)),
-                add(join(a.n, b.n), join(a.p, b.p)),
-            )
-        }
-    };
-    Row { p, n }
+/// The clauses of a node that has children.
+#[derive(Clone, Copy)]
+enum Kind {
+    Not,
+    And,
+    Or,
+    Implies,
+    Equivalent,
 }
 
-/// The clauses that define a node of these totals.
-fn definition(mark: Mark, row: Row) -> u32 {
-    let (p, n) = (u32::from(mark.positive), u32::from(mark.negative));
-    p * row.p + n * row.n
+/// A node that has children and that the root reaches.
+#[derive(Clone, Copy)]
+struct Inner {
+    kind: Kind,
+    is_renamed: bool,
+    /// 1 for each half that its definition has.
+    halves: (u8, u8),
+    number: u16,
+    a: u16,
+    b: u16,
+}
+
+impl Inner {
+    /// None for a leaf and for a node that the root doesn't reach.
+    fn new(number: usize, node: Node, mark: Mark) -> Option<Inner> {
+        let (kind, a, b) = match node {
+            Node::False | Node::True | Node::Symbol(_) => return None,
+            Node::Not(a) => (Kind::Not, a, a),
+            Node::And(a, b) => (Kind::And, a, b),
+            Node::Or(a, b) => (Kind::Or, a, b),
+            Node::Implies(a, b) => (Kind::Implies, a, b),
+            Node::Equivalent(a, b) => (Kind::Equivalent, a, b),
+        };
+        let inner = Inner {
+            kind,
+            is_renamed: false,
+            halves: (u8::from(mark.positive), u8::from(mark.negative)),
+            number: number as u16,
+            a: a as u16,
+            b: b as u16,
+        };
+        Some(inner).filter(|_| mark.is_reached())
+    }
+
+    fn row(&self, seen: &Seen) -> Row {
+        let (a, b) = (seen[usize::from(self.a)], seen[usize::from(self.b)]);
+        let (p, n) = match self.kind {
+            Kind::Not => (a.n, a.p),
+            Kind::And => (add(a.p, b.p), join(a.n, b.n)),
+            Kind::Or => (join(a.p, b.p), add(a.n, b.n)),
+            Kind::Implies => (join(a.n, b.p), add(a.p, b.n)),
+            Kind::Equivalent => (
+                add(join(a.n, b.p), join(b.n, a.p)),
+                add(join(a.n, b.n), join(a.p, b.p)),
+            ),
+        };
+        Row { p, n }
+    }
+
+    /// The clauses that define the node where its totals are these.
+    fn definition(&self, row: Row) -> u32 {
+        u32::from(self.halves.0) * row.p + u32::from(self.halves.1) * row.n
+    }
+}
+
+/// The row of a leaf.
+fn leaf(node: Node) -> Row {
+    match node {
+        Node::False => Row { p: 1, n: 0 },
+        Node::True => Row { p: 0, n: 1 },
+        _ => HELPER,
+    }
+}
+
+/// Fills what parents see of these nodes. Gives the clauses that define the renamed ones, at the ceiling.
+fn fill(inner: &[Inner], seen: &mut Seen) -> u32 {
+    let mut definitions = 0;
+    for node in inner {
+        let row = node.row(seen);
+        let at = usize::from(node.number);
+        if node.is_renamed {
+            definitions = add(definitions, node.definition(row));
+            seen[at] = HELPER;
+        } else {
+            seen[at] = row;
+        }
+    }
+    definitions
 }
 
 /// The set for an allowance.
 pub fn fast_choose(nodes: &[Node], allowance: u32) -> Choice {
     let root = nodes.len() - 1;
-    let (marks, may) = (marks(nodes), may_be_renamed(nodes));
-    // What parents see of each node. Up to the node that is tried, this is the row of its own list.
-    let mut seen: Vec<Row> = Vec::with_capacity(nodes.len());
-    for &node in nodes {
-        seen.push(row(node, &seen));
+    let mut seen: Seen = [HELPER; MOST_NODES];
+    let mut inner = vec![];
+    for ((number, &node), mark) in nodes.iter().enumerate().zip(marks(nodes)) {
+        seen[number] = leaf(node);
+        inner.extend(Inner::new(number, node, mark));
     }
+    fill(&inner, &mut seen);
     let mut choice = Choice {
         set: vec![false; nodes.len()],
         picks: 0,
         total: seen[root].p,
     };
-    for number in (0..root).rev().filter(|&number| may[number]) {
+    // The last of them is the root, where any is.
+    for tried in (0..inner.len().saturating_sub(1)).rev() {
         if choice.picks == allowance {
             break;
         }
+        let number = usize::from(inner[tried].number);
         let own = seen[number];
         seen[number] = HELPER;
-        let mut tried = definition(marks[number], own).min(CEILING);
-        for above in number + 1..nodes.len() {
-            let its = row(nodes[above], &seen);
-            if choice.set[above] {
-                tried = (tried + definition(marks[above], its)).min(CEILING);
-                seen[above] = HELPER;
-            } else {
-                seen[above] = its;
-            }
-        }
-        tried = add(tried, seen[root].p);
-        if tried < choice.total {
+        let definitions = fill(&inner[tried + 1..], &mut seen);
+        let total = add(add(definitions, inner[tried].definition(own)), seen[root].p);
+        if total < choice.total {
+            inner[tried].is_renamed = true;
             choice.set[number] = true;
-            choice.total = tried;
+            choice.total = total;
             choice.picks += 1;
         } else {
             // The totals above are filled again before they are next read.

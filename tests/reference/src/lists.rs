@@ -108,11 +108,11 @@ enum Later {
 /// Two rules keep the walk short. A list of no clause is never entered. A list of no literal is a
 /// number of empty clauses, and is not entered either: there is nothing to write.
 pub struct Walk<'a> {
-    pub lists: &'a Lists,
+    lists: &'a Lists,
     /// The helper of each renamed node, else 0.
-    pub helpers: &'a [i32],
+    helpers: &'a [i32],
     /// The sizes of each node's own P and N.
-    pub sizes: &'a [[Size; 2]],
+    sizes: &'a [[Size; 2]],
     clause: Vec<i32>,
     /// A goal, and the cell of the goal after it.
     agenda: Vec<(Goal, Option<usize>)>,

@@ -8,7 +8,7 @@ use lib.ListN.{length, length-append}
 use borrow.Author.Tests.{eq-eqb, ne-eqb}
 use Rattle.laws.specs.Splices.{splice}
 use Rattle.laws.proofs.Splices.{splice-splice, splice-all}
-use Rattle.answer.specs.Part.{given, called}
+use Rattle.answer.specs.Part.{Given, given, called, Wrote, leaves}
 use Rattle.answer.specs.declared.Answer.{Answer}
 
 -- a part that is not 16 bytes long is refusal 11 whatever the answer, and is not written
@@ -17,6 +17,17 @@ called-wrong part a h = rw (ne-eqb (length part) 16 h)
 
 pub called-right : (part : List ℕ) (a : Answer) → length part ≡ 16 → given a ≡ called part a
 called-right part a h = rw (eq-eqb (length part) 16 h)
+
+pub leaves-wrong : (part before : List ℕ) (w : Wrote) → (length part ≡ 16 → ⊥) → record { result = 11; output = before; part = part } ≡ leaves part before w
+leaves-wrong part before w h = rw (ne-eqb (length part) 16 h)
+
+-- the output and the part after a call whose answer was given
+pub leaves-right : (part before : List ℕ) (w x : Wrote) (g : Given) → length part ≡ 16 → x ≡ w → g ≡ given (x .answer)
+    → record { result = g .result; output = x .output; part = g .part } ≡ leaves part before w
+leaves-right part before w x g h e f =
+    rw (eq-eqb (length part) 16 h)
+    ((λ i. record { result = f i .result; output = x .output; part = f i .part })
+    ∙ ap (λ (y : Wrote). record { result = given (y .answer) .result; output = y .output; part = given (y .answer) .part }) e)
 
 -- four runs of four, one behind the other, are the whole part
 pub four-runs : (l₀ l₁ l₂ l₃ l₄ a b c d : List ℕ) → length a ≡ 4 → length b ≡ 4 → length c ≡ 4 → length d ≡ 4 → length l₀ ≡ 16

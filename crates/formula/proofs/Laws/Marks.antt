@@ -10,14 +10,13 @@ use lib.Dec.{T, eqb}
 use lib.ListN.{length, set, length-set}
 use lib.Seq.{getD-set-same, getD-set-other, set-getD}
 use borrow.Author.Tests.{eqb-true, eqb-false}
-use Rattle.formula.specs.Records.{useOfA, useOfB}
+use Rattle.formula.specs.Records.{useOfA, useOfB, FieldBelow, Below}
 use Rattle.formula.specs.Marks.{unmarked, joined, turned, doubled, toA, toB, markIn, mark, passOn}
 use Rattle.formula.specs.Paths.{has}
 use Rattle.formula.specs.declared.mark.Mark.{Mark}
 use Rattle.formula.specs.declared.node.Kind.{Kind}
 use Rattle.formula.specs.declared.node.Kind.the-variants.{False, True, Symbol, Not, And, Or, Implies, Equivalent, Unknown}
 use Rattle.formula.specs.declared.node.Node.{Node}
-use Rattle.formula.proofs.Laws.WellFormed.{FieldBelow, Below}
 
 -- n has every sign that m has
 abbrev pub Le : Mark → Mark → Type 0

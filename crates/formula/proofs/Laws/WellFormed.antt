@@ -14,7 +14,7 @@ use Rattle.answer.proofs.Laws.Order.{passes}
 use Rattle.laws.proofs.First.{first-before, first-fails}
 use Rattle.formula.specs.Limits.{nodeBytes, mostNodes, mostOptions}
 use Rattle.formula.specs.Nodes.{nodeAt, nodeCount, nodesOf, nodeIn}
-use Rattle.formula.specs.Records.{known, useOfA, useOfB, fieldRight, faultOf}
+use Rattle.formula.specs.Records.{known, useOfA, useOfB, fieldRight, faultOf, FieldBelow, Below}
 use Rattle.formula.specs.Checks.{RightLength, lengthWrong, recordRight, firstWrong, checked}
 use Rattle.formula.specs.declared.node.Kind.{Kind}
 use Rattle.formula.specs.declared.node.Kind.the-variants.{Symbol}
@@ -22,16 +22,6 @@ use Rattle.formula.specs.declared.node.Node.{Node}
 use Rattle.formula.specs.declared.node.Use.{Use}
 use Rattle.formula.specs.declared.node.Use.the-variants as held
 use Rattle.formula.proofs.Laws.Tables.{length-nodesOf, nodeIn-nodesOf}
-
--- a field that holds a child is below i
-abbrev pub FieldBelow : ℕ → Use → ℕ → Type 0
-FieldBelow i held.Unused x = Unit {0}
-FieldBelow i held.Child x = x < i
-FieldBelow i held.Symbol x = Unit {0}
-
--- the children of node i are below it
-abbrev pub Below : ℕ → Node → Type 0
-Below i n = FieldBelow i (useOfA (n .kind)) (n .a) × FieldBelow i (useOfB (n .kind)) (n .b)
 
 pub record WellFormed (v : ℕ) (ns : List Node) : Type 0 where
   pub some : 0 < length ns

@@ -23,11 +23,11 @@ use Rattle.totals.specs.Columns.{rowed, rowTotals, column, columnsOf, ro
 use Rattle.totals.specs.declared.rows.Row.{Row}
 use Rattle.totals.specs.declared.rows.Totals.{Totals}
 
--- the row of a node, from the totals of its P and its N
-pub ruled : (kind k : Kind) (a : ℕ) (x y : algebra.Row Size) (p n : Size) → kind ≡ k
-    → p ≡ algebra.rowBy capped k a x y .P → n ≡ algebra.rowBy capped k a x y .N
-    → record { P = p; N = n } ≡ algebra.rowBy capped kind a x y
-ruled kind k a x y p n e f g = (λ i. record { P = f i; N = g i }) ∙ ap (λ (h : Kind). algebra.rowBy capped h a x y) (sym e)
+-- the row of a node, from what is collected of its P and its N
+pub ruled : {C : Type 0} (A : algebra.Algebra C) (kind k : Kind) (a : ℕ) (x y : algebra.Row C) (p n : C) → kind ≡ k
+    → p ≡ algebra.rowBy A k a x y .P → n ≡ algebra.rowBy A k a x y .N
+    → record { P = p; N = n } ≡ algebra.rowBy A kind a x y
+ruled A kind k a x y p n e f g = (λ i. record { P = f i; N = g i }) ∙ ap (λ (h : Kind). algebra.rowBy A h a x y) (sym e)
 
 map-more : {A : Type 0} (f : A → ℕ) (xs : List A) (x : A) → map f (xs ++ (x ∷ [])) ≡ map f xs ++ (f x ∷ [])
 map-more f [] x = refl

@@ -12,13 +12,10 @@ use Rattle.clausal.specs.Algebra.{Algebra, Row}
 use Rattle.clausal.specs.Helpers.{renamed, helperOf}
 use Rattle.clausal.specs.Output.{Part, halvesOf, rootPart, downPart, upPart, definition, definitions, partsOf, gather, wholeOf}
 use Rattle.clausal.specs.Rows.{rowOf}
+use Rattle.clausal.proofs.Options.{gather-append}
 use Rattle.totals.specs.Whole.{withPart, withDefinition, withNode}
 
 module _ {C : Type 0} (A : Algebra C) where
-  gather-append : (sum : C) (ps qs : List (Part C)) → gather A sum (ps ++ qs) ≡ gather A (gather A sum ps) qs
-  gather-append sum [] qs = refl
-  gather-append sum (p ∷ ps) qs = gather-append (A .cat sum (p .content)) ps qs
-
   module _ (v : ℕ) (s : List ℕ) (ns : List Node) where
     -- what is collected of the root and of the nodes below i
     abbrev pub wholeTo : ℕ → C
@@ -42,7 +39,7 @@ module _ {C : Type 0} (A : Algebra C) where
     unfolding definitions
     whole-more i =
         ap wholeTo (add-one i)
-        ∙ gather-append (A .none) (rootPart A v s ns ∷ definitions A v s ns i) (definition A v s ns i)
+        ∙ gather-append A (A .none) (rootPart A v s ns ∷ definitions A v s ns i) (definition A v s ns i)
         ∙ gather-definition (wholeTo i) i
 
     pub whole-start : A .cat (A .none) (rowOf A v s ns (length ns - 1) .P) ≡ wholeTo 0

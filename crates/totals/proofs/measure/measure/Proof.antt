@@ -1,8 +1,11 @@
 -- `totals::measure::measure` meets its contract: the table is checked first. Assumes nothing.
+use mathlib.Core.Path.{_∙_}
 use mathlib.Core.Bool.{false}
 use borrow.Author.Needs.{needs}
 use Rattle.answer.proofs.Laws.Order.{tested, refused-first, accepted-first}
+use Rattle.formula.specs.Nodes.{nodesOf}
 use Rattle.formula.proofs.Laws.WellFormed.{length-right}
+use Rattle.totals.proofs.Laws.Measured.{measured-options}
 use Rattle.totals.proofs.measure.measure.Statement.{statement}
 use Rattle.totals.proofs.measure.measure.Tie as tie
 
@@ -21,7 +24,9 @@ measured : tie.Need-returns-2
 measured c =
     let if1 = c .before in
     let check = if1 .before .before in
-    accepted-first _ _ _ (check .check .ensures) (if1 .before .is-refusal .ensures) _ _ (if1 .if1 .left) (c .measure-under .ensures)
+    let start = check .before .before .before in
+    accepted-first _ _ _ (check .check .ensures) (if1 .before .is-refusal .ensures) _ _ (if1 .if1 .left)
+    (c .measure-under .ensures ∙ measured-options 0 (start .args .options) (nodesOf (start .args .table .now)) (start .args .set .now))
 
 pub measure-spec : {M : Type 1} → statement M
 measure-spec =

@@ -1,0 +1,45 @@
+-- `choose::pass::choose_under` meets its contract: the buffer's length first, then the pass from the empty set. Assumes nothing.
+use mathlib.Core.Path.{_≡_, refl, sym, ap, _∙_}
+use Prim.Native.Nat.{ℕ}
+use lib.ListN.{length, replicate}
+use borrow.Author.Needs.{needs}
+use borrow.Author.Tests.{eq-eqb, ne-eqb}
+use Rattle.formula.specs.Nodes.{nodesOf}
+use Rattle.formula.proofs.Laws.Tables.{length-nodesOf}
+use Rattle.choose.proofs.pass.choose_under.Statement.{statement}
+use Rattle.choose.proofs.pass.choose_under.Tie as tie
+
+length-wrong : tie.Need-returns
+length-wrong c =
+    let start = c .before .before .before in
+    rw (length-nodesOf (start .args .table .now), ne-eqb _ _ (c .if1 .taken))
+
+asked : tie.Need-pass-requires
+asked c κs =
+    let clear = c .before .before .before .before .before in
+    let if1 = clear .before .before in
+    let start = if1 .before .before .before in
+    let t = start .args .table .now in
+    (start .pre .0, (start .pre .1, (c .before .before .marks .ensures, clear .clear .ensures ∙ ap (λ (k : ℕ). replicate k 0) (if1 .if1 .left ∙ sym (length-nodesOf t)))))
+
+chosen : tie.Need-returns-2
+chosen c =
+    let pass = c .before .before in
+    let clear = pass .before .before .before .before .before .before in
+    let if1 = clear .before .before in
+    let start = if1 .before .before .before in
+    let t = start .args .table .now in
+    rw (eq-eqb _ _ (if1 .if1 .left ∙ sym (length-nodesOf t))) (pass .pass .ensures)
+
+pub choose-under-spec : {M : Type 1} → statement M
+choose-under-spec =
+    tie.close
+    (tie.spec
+    (λ c. search needs)
+    length-wrong
+    (λ c κs. search needs)
+    (λ c κs. search needs)
+    (λ c. search needs)
+    asked
+    (λ c. search needs)
+    chosen)

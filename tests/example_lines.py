@@ -1,0 +1,78 @@
+"""The requests and answers of examples.txt."""
+
+import re
+import sys
+
+import programs
+
+# What \n, \t, \r and \0 stand for in a text.
+ESCAPES = {"n": "\n", "t": "\t", "r": "\r", "0": "\0"}
+
+
+def number(value):
+    return int(value).to_bytes(2, "little").hex()
+
+
+def text(found):
+    return re.sub(r"\\([ntr0])", lambda escape: ESCAPES[escape[1]], found[1]).encode().hex()
+
+
+def repeated(found):
+    return found[1] * int(found[2])
+
+
+def twice(found):
+    kind, first, count = (int(word) for word in found.groups())
+    fields = (number(below) for below in range(first - 1, first - 1 + count))
+    return "".join(f"{kind:02x}{field}{field}" for field in fields)
+
+
+def over(found):
+    kind, first, count, other = (int(word) for word in found.groups())
+    return "".join(f"{kind:02x}{number(below)}{number(other)}" for below in range(first - 1, first - 1 + count))
+
+
+def pairs(found):
+    kind, first, count = (int(word) for word in found.groups())
+    numbers = range(first, first + 2 * count, 2)
+    return "".join(
+        f"{kind:02x}{number(at - 1)}{number(at - 1)}{kind:02x}{number(at)}{number(0)}" for at in numbers
+    )
+
+
+def lent(found):
+    """A lent output that starts with the given bytes, as an answer shows it."""
+    start = programs.from_parts(found[2])
+    return programs.shown(start + bytes((91 * i + 5) % 256 for i in range(len(start), int(found[1]))))
+
+
+# In this order, since one may stand inside a later one.
+MACROS = [
+    (r"\{text ([^{}]*)\}", text),
+    (r"\{([0-9a-f]+)\*(\d+)\}", repeated),
+    (r"\{twice (\d+) (\d+) (\d+)\}", twice),
+    (r"\{over (\d+) (\d+) (\d+) (\d+)\}", over),
+    (r"\{pairs (\d+) (\d+) (\d+)\}", pairs),
+    (r"\{lent (\d+) ([-0-9a-f+*]+)\}", lent),
+]
+
+
+def expanded(line):
+    """A line of the examples as the protocol has it."""
+    # In a request the first word may have an underscore.
+    operation, rest = re.fullmatch(r"([a-z_]* )?(.*)", line).groups(default="")
+    rest = rest.replace("_", "")
+    for form, meaning in MACROS:
+        rest = re.sub(form, meaning, rest)
+    return operation + rest
+
+
+def read():
+    """The pairs of a request and its answer."""
+    lines = (programs.TESTS / "examples.txt").read_text().splitlines()
+    lines = [line for line in lines if line and not line.startswith("#")]
+    requests, answers = lines[0::2], lines[1::2]
+    ordered = all(line.startswith("> ") for line in requests) and all(line.startswith("< ") for line in answers)
+    if not ordered or len(requests) != len(answers):
+        sys.exit("examples.txt: requests and answers do not come in turn")
+    return [(expanded(request[2:]), expanded(answer[2:])) for request, answer in zip(requests, answers)]
