@@ -1,5 +1,5 @@
 /*
- * Simbolufa: checks a build guard's formula table, for a C or C++ host.
+ * Simbolufa: converts a build guard's formula table to clauses, for a C or C++ host.
  *
  * The node table
  *
@@ -19,6 +19,21 @@
  *
  *   A table has 1 to 1,024 nodes. V is 0 to 32,000. An option need not occur. Nodes that the root
  *   does not reach keep to the same rules.
+ *
+ * Renamed nodes and helpers
+ *
+ *   A set is one byte a node: 1 for a renamed node, else 0. A node may be renamed if its kind is 3 to
+ *   7, the root reaches it and it is not the root. Renamed nodes get helpers V + 1, V + 2, .. in rising
+ *   node number. A helper stands for its node in the clauses of the node's parents, and more clauses
+ *   define it.
+ *
+ *   To solve two guards together, convert the second with V set to the variables that the first one
+ *   reported. Then no helper of one is a symbol or a helper of the other.
+ *
+ * Totals
+ *
+ *   A clause total shows as 65,535 where it is that or more. A literal total shows as 1,000,000 where
+ *   it is that or more, and where its clause total is 65,535 or more.
  *
  * Every call
  *
@@ -101,14 +116,38 @@ enum { SIMBOLUFA_ANSWER_LENGTH = 16 };
 uint32_t simbolufa_check(const uint8_t *table, size_t table_len, uint32_t options, uint8_t *answer,
                          size_t answer_len);
 
+/*
+ * Measures a conversion under a set. `options` is V, and `set` has one byte a node.
+ *
+ * Returns 0, 1, 2, 3, 4 or 11. The values of the answer part are the clause total and the literal
+ * total, each at its ceiling. A conversion of c clauses and l literals takes 4 * (c + l) bytes. It is
+ * refused where c shows as 65,535 or l shows as 1,000,000.
+ */
+uint32_t simbolufa_measure(const uint8_t *table, size_t table_len, uint32_t options, const uint8_t *set,
+                           size_t set_len, uint8_t *answer, size_t answer_len);
+
+/*
+ * Chooses a set. `options` is V, and `allowance` is the most nodes to rename. `set` is a buffer of one
+ * byte a node. What it holds before the call plays no part.
+ *
+ * Nodes that may be renamed are tried from the highest number down. A node is put in where the clause
+ * total, at its ceiling, becomes lower. A larger allowance renames at least the same nodes, and its
+ * clause total is not higher.
+ *
+ * Returns 0, 1, 2, 3, 4 or 11. On 0 every byte of `set` is written. The values of the answer part are
+ * the number of renamed nodes and the clause total. A total of 65,535 is not refused here.
+ */
+uint32_t simbolufa_choose(const uint8_t *table, size_t table_len, uint32_t options, uint32_t allowance,
+                          uint8_t *set, size_t set_len, uint8_t *answer, size_t answer_len);
+
 /* The four numbers of an answer part. */
 struct simbolufa_answer {
     /* What the call returned. */
     uint32_t number;
     uint32_t place;
-    /* Variables or picks; 0 for a check. */
+    /* Variables, renamed nodes, or the clause total of a measure; 0 for a check. */
     uint32_t first;
-    /* Clauses or a total; 0 for a check. */
+    /* Clauses, a clause total, or the literal total of a measure; 0 for a check. */
     uint32_t second;
 };
 
