@@ -9,7 +9,7 @@ use Prim.Native.Nat.{ℕ, _+_, _*_, _<_}
 use lib.ListN.{length}
 use Rattle.formula.specs.Nodes.{nodeIn}
 use Rattle.formula.specs.declared.node.Node.{Node}
-use Rattle.formula.proofs.Laws.WellFormed.{WellFormed}
+use Rattle.formula.specs.Records.{WellFormed}
 use Rattle.clausal.specs.Algebra.{Algebra, Row, unitRow, clauses}
 use Rattle.clausal.specs.Helpers.{renamed, helperOf}
 use Rattle.clausal.specs.Rows.{rowOf}

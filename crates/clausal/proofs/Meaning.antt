@@ -14,12 +14,12 @@ use Rattle.formula.specs.Checks.{checked}
 use Rattle.formula.specs.Marks.{toA, toB, markOf}
 use Rattle.formula.specs.Nodes.{nodesOf, nodeIn}
 use Rattle.formula.specs.Paths.{has}
-use Rattle.formula.specs.Records.{known}
+use Rattle.formula.specs.Records.{known, WellFormed}
 use Rattle.formula.specs.Truths.{truthOf, formulaTrue}
 use Rattle.formula.specs.declared.mark.Mark.{Mark}
 use Rattle.formula.specs.declared.node.Node.{Node}
 use Rattle.formula.proofs.Laws.Polarity.{passed-a, passed-b, root-positive}
-use Rattle.formula.proofs.Laws.WellFormed.{WellFormed, accepted-well-formed}
+use Rattle.formula.proofs.Laws.WellFormed.{accepted-well-formed}
 use Rattle.clausal.specs.Algebra.{Row, unitRow}
 use Rattle.clausal.specs.Helpers.{renamed, helperOf}
 use Rattle.clausal.specs.Output.{outputOf}

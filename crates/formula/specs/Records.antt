@@ -2,8 +2,10 @@
 -- Assumes nothing: these are definitions.
 use mathlib.Core.Bool.{Bool, true, false, cond, _&&_}
 use mathlib.Core.List.{List}
-use Prim.Native.Nat.{ℕ, _<_}
+use mathlib.Core.Path.{_≡_}
+use Prim.Native.Nat.{ℕ, _<_, _≤_}
 use lib.Dec.{eqb, leb, ltb}
+use lib.ListN.{length}
 use Rattle.formula.specs.Nodes.{nodeIn}
 use Rattle.formula.specs.declared.node.Kind.{Kind}
 use Rattle.formula.specs.declared.node.Kind.the-variants as kind
@@ -75,3 +77,9 @@ Below i n = FieldBelow i (useOfA (n .kind)) (n .a) × FieldBelow i (useOfB (n .k
 -- "A child's number is below its parent's", for all nodes
 abbrev pub ChildrenBelow : List Node → Type 0
 ChildrenBelow ns = (i : ℕ) → Below i (nodeIn ns i)
+
+-- what the check of a table gives: some nodes, children below their parents, and symbols from 1 to V
+pub record WellFormed (v : ℕ) (ns : List Node) : Type 0 where
+  pub some : 0 < length ns
+  pub below : (i : ℕ) → Below i (nodeIn ns i)
+  pub symbols : (i : ℕ) → nodeIn ns i .kind ≡ kind.Symbol → (0 < nodeIn ns i .a) × (nodeIn ns i .a ≤ v)

@@ -19,8 +19,8 @@ use Rattle.formula.specs.declared.mark.Mark.{Mark}
 use Rattle.formula.specs.declared.node.Kind.{Kind}
 use Rattle.formula.specs.declared.node.Kind.the-variants.{False, True, Symbol, Not, And, Or, Implies, Equivalent, Unknown}
 use Rattle.formula.specs.declared.node.Node.{Node}
-use Rattle.formula.proofs.Laws.WellFormed.{WellFormed, accepted-well-formed}
-use Rattle.formula.specs.Records.{Below}
+use Rattle.formula.proofs.Laws.WellFormed.{accepted-well-formed}
+use Rattle.formula.specs.Records.{Below, WellFormed}
 use Rattle.formula.proofs.Laws.Marks.{Le, joined-either, turned-has, doubled-has, doubled-either, unmarked-has, mark-same, mark-other, Passed, passed}
 
 module _ (ns : List Node) where

@@ -14,7 +14,7 @@ use Rattle.answer.proofs.Laws.Order.{passes}
 use Rattle.laws.proofs.First.{first-before, first-fails}
 use Rattle.formula.specs.Limits.{nodeBytes, mostNodes, mostOptions}
 use Rattle.formula.specs.Nodes.{nodeAt, nodeCount, nodesOf, nodeIn}
-use Rattle.formula.specs.Records.{known, useOfA, useOfB, fieldRight, faultOf, FieldBelow, Below}
+use Rattle.formula.specs.Records.{known, useOfA, useOfB, fieldRight, faultOf, FieldBelow, Below, WellFormed}
 use Rattle.formula.specs.Checks.{RightLength, lengthWrong, recordRight, firstWrong, checked}
 use Rattle.formula.specs.declared.node.Kind.{Kind}
 use Rattle.formula.specs.declared.node.Kind.the-variants.{Symbol}
@@ -22,11 +22,6 @@ use Rattle.formula.specs.declared.node.Node.{Node}
 use Rattle.formula.specs.declared.node.Use.{Use}
 use Rattle.formula.specs.declared.node.Use.the-variants as held
 use Rattle.formula.proofs.Laws.Tables.{length-nodesOf, nodeIn-nodesOf}
-
-pub record WellFormed (v : ℕ) (ns : List Node) : Type 0 where
-  pub some : 0 < length ns
-  pub below : (i : ℕ) → Below i (nodeIn ns i)
-  pub symbols : (i : ℕ) → nodeIn ns i .kind ≡ Symbol → (0 < nodeIn ns i .a) × (nodeIn ns i .a ≤ v)
 
 pub record Accepts (t : List ℕ) (v : ℕ) : Type 0 where
   pub lengths : lengthWrong (length t) ≡ false
