@@ -99,38 +99,56 @@ impl Table {
     }
 }
 
-/// Adds a node to a table, by the number that it gets.
-type Step = fn(&mut Table, usize);
+/// Adds a node to a table that is to have so many nodes. The first number is the one that the node gets.
+type Step = fn(&mut Table, usize, usize);
 
 /// An and or an or, in turn, of the node before with a symbol.
-fn chain(table: &mut Table, number: usize) {
+fn chain(table: &mut Table, number: usize, _: usize) {
     table.push(4 + (number % 2) as u8, number - 1, number % SYMBOLS);
 }
 
 /// An and or an or of two of the nodes before.
-fn shared(table: &mut Table, number: usize) {
+fn shared(table: &mut Table, number: usize, _: usize) {
     let mixed = number.wrapping_mul(2_654_435_761) >> 7;
     table.push(4 + (mixed % 2) as u8, number - 1, number - 2 - mixed % 5);
 }
 
 /// The equivalence of the node before with a symbol.
-fn equivalences(table: &mut Table, number: usize) {
+fn equivalences(table: &mut Table, number: usize, _: usize) {
     table.push(7, number - 1, number % SYMBOLS);
 }
 
 /// Four nots, then the implication of the node before by one further below.
-fn nots(table: &mut Table, number: usize) {
+fn nots(table: &mut Table, number: usize, _: usize) {
     match number % 5 {
         0 => table.push(6, number - 5, number - 1),
         _ => table.push(3, number - 1, 0),
     }
 }
 
-const SHAPES: [(&str, Step); 4] = [
+/// A conjunction of blocks, each of them (s1 and s2 and s3) or (s4 and s5 and s6). One node of each is worth renaming.
+fn blocks(table: &mut Table, number: usize, count: usize) {
+    let within = (number - SYMBOLS) % 6;
+    let first = number - within;
+    if first + 6 > count {
+        return table.push(4, number - 1, 0);
+    }
+    match within {
+        0 => table.push(4, 0, 1),
+        1 => table.push(4, first, 2),
+        2 => table.push(4, 3, 4),
+        3 => table.push(4, first + 2, 5),
+        4 => table.push(5, first + 1, first + 3),
+        _ => table.push(4, first - 1, first + 4),
+    }
+}
+
+const SHAPES: [(&str, Step); 5] = [
     ("chain of ands and ors", chain),
     ("shared ands and ors", shared),
     ("equivalences", equivalences),
     ("nots and implications", nots),
+    ("blocks", blocks),
 ];
 
 fn main() {
@@ -142,7 +160,7 @@ fn main() {
         for count in COUNTS {
             let mut table = Table::new();
             for number in SYMBOLS..count {
-                step(&mut table, number);
+                step(&mut table, number, count);
             }
             let options = SYMBOLS as u32;
             let (set, picks, total) = by_library(&table.bytes, options, count);

@@ -1,0 +1,9 @@
+-- Laws of converting, by subject.
+pub mod Counts
+pub mod Definitions
+pub mod Fitted
+pub mod Found
+pub mod Helpers
+pub mod Leads
+pub mod Parts
+pub mod Wrote

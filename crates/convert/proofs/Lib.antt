@@ -1,0 +1,2 @@
+-- Laws and theorems of converting.
+pub mod Laws

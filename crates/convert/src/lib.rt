@@ -1,0 +1,6 @@
+// Converting a formula to clause bytes.
+mod clause;
+pub mod convert;
+mod helper;
+mod part;
+mod step;
