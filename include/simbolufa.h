@@ -35,6 +35,11 @@
  *   A clause total shows as 65,535 where it is that or more. A literal total shows as 1,000,000 where
  *   it is that or more, and where its clause total is 65,535 or more.
  *
+ * Clause bytes
+ *
+ *   A literal is a 32-bit little-endian two's complement number: a variable, or minus a variable. A
+ *   zero closes each clause. So clauses take four bytes for each literal and four for each clause.
+ *
  * Every call
  *
  *   A buffer is lent as a pointer and its length in bytes. Buffers lent to one call must not overlap.
@@ -139,6 +144,21 @@ uint32_t simbolufa_measure(const uint8_t *table, size_t table_len, uint32_t opti
  */
 uint32_t simbolufa_choose(const uint8_t *table, size_t table_len, uint32_t options, uint32_t allowance,
                           uint8_t *set, size_t set_len, uint8_t *answer, size_t answer_len);
+
+/*
+ * Converts a table to clause bytes under a set. `options` is V, and `set` has one byte a node.
+ *
+ * The clauses of the root come first. Then come those of the renamed nodes, in rising node number. Rows
+ * of values that satisfy the clauses satisfy the formula. A row that satisfies the formula satisfies
+ * the clauses with each helper at its node's truth. Nothing is simplified.
+ *
+ * Returns 0, 1, 2, 3, 4, 5, 6, 7 or 11. On 0 the clause bytes are the first bytes of `out`, and the
+ * bytes after them are not changed. The values of the answer part are the variables (V and the number
+ * of helpers) and the clauses. simbolufa_measure tells how many bytes are needed.
+ */
+uint32_t simbolufa_convert(const uint8_t *table, size_t table_len, uint32_t options, const uint8_t *set,
+                           size_t set_len, uint8_t *out, size_t out_len, uint8_t *answer,
+                           size_t answer_len);
 
 /* The four numbers of an answer part. */
 struct simbolufa_answer {

@@ -1,2 +1,3 @@
 -- Laws and theorems of converting.
 pub mod Laws
+pub mod NoChoice

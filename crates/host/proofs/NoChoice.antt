@@ -13,6 +13,8 @@ use Rattle.host.proofs.simbolufa_measure.Kinds as measure-kinds
 use Rattle.host.proofs.simbolufa_measure.Reads as measure
 use Rattle.host.proofs.simbolufa_choose.Kinds as choose-kinds
 use Rattle.host.proofs.simbolufa_choose.Reads as choose
+use Rattle.host.proofs.simbolufa_convert.Kinds as convert-kinds
+use Rattle.host.proofs.simbolufa_convert.Reads as convert
 
 pub check-settled : (κs : Lfts 2) (a : Dens κs check-kinds.ps) (r q : resT check-kinds.r κs .Denot) (s t : AtExit (endedOf 2 check-kinds.ps check-kinds.r) κs)
     → check.Post κs a r s → check.Post κs a q t → (r ≡ q) × (now (s .1 .1 .0) ≡ now (t .1 .1 .0))
@@ -25,3 +27,7 @@ measure-settled κs a r q s t e f = let same = e ∙ sym f in (ap (λ (g : Given
 pub choose-settled : (κs : Lfts 3) (a : Dens κs choose-kinds.ps) (r q : resT choose-kinds.r κs .Denot) (s t : AtExit (endedOf 3 choose-kinds.ps choose-kinds.r) κs)
     → choose.Post κs a r s → choose.Post κs a q t → (r ≡ q) × (now (s .1 .1 .1 .0) ≡ now (t .1 .1 .1 .0)) × (now (s .1 .1 .1 .1 .0) ≡ now (t .1 .1 .1 .1 .0))
 choose-settled κs a r q s t e f = let same = e ∙ sym f in (ap (λ (l : Left). l .result) same, ap (λ (l : Left). l .output) same, ap (λ (l : Left). l .part) same)
+
+pub convert-settled : (κs : Lfts 4) (a : Dens κs convert-kinds.ps) (r q : resT convert-kinds.r κs .Denot) (s t : AtExit (endedOf 4 convert-kinds.ps convert-kinds.r) κs)
+    → convert.Post κs a r s → convert.Post κs a q t → (r ≡ q) × (now (s .1 .1 .1 .0) ≡ now (t .1 .1 .1 .0)) × (now (s .1 .1 .1 .1 .0) ≡ now (t .1 .1 .1 .1 .0))
+convert-settled κs a r q s t e f = let same = e ∙ sym f in (ap (λ (l : Left). l .result) same, ap (λ (l : Left). l .output) same, ap (λ (l : Left). l .part) same)

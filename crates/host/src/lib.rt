@@ -4,6 +4,7 @@ ghost use Rattle.answer.specs.Part.{called, leaves};
 ghost use Rattle.formula.specs.Checks.{checked};
 ghost use Rattle.totals.specs.Measured.{measured};
 ghost use Rattle.choose.specs.Chosen.{chosenBy};
+ghost use Rattle.convert.specs.Converted.{converted};
 use answer::give;
 
 // Checks a formula table for a project of `options` options.
@@ -48,4 +49,21 @@ pub extern "C" fn simbolufa_choose(
         return 11;
     }
     give(choose::pass::choose(table, options, allowance, set), answer)
+}
+
+// Checks a table and a set, and writes the clauses of the formula under the set: variables and clauses are reported.
+#[no_mangle]
+pub extern "C" fn simbolufa_convert(
+    table: &[u8],
+    options: u32,
+    set: &[u8],
+    out: &mut [u8],
+    answer: &mut [u8],
+) -> u32
+    ensures { λ r. ⌜ record { result = r; output = now (out .exit); part = now (answer .exit) } ≡ leaves (now (answer .entry)) (now (out .entry)) (converted (now (table .entry)) options (now (set .entry)) (now (out .entry))) ⌝ }
+{
+    if answer.len() != 16 {
+        return 11;
+    }
+    give(convert::convert::convert(table, options, set, out), answer)
 }

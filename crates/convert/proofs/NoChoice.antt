@@ -1,0 +1,15 @@
+-- Any two results that a promise of this crate allows are equal, and so is each lent byte afterwards.
+-- Stated of the promises as the check reads them: `Reads.Post` of each public function.
+-- Assumes nothing.
+use mathlib.Core.Path.{_≡_, sym, _∙_, ap}
+use Rattle.answer.specs.Part.{Wrote}
+use contract.Lifetimes.{Lfts}
+use denote.Ref.{now}
+use denote.Triple.Clauses.{AtExit}
+use borrow.Fn.Kinds.{Dens, endedOf, resT}
+use Rattle.convert.proofs.convert.convert.Kinds as convert-kinds
+use Rattle.convert.proofs.convert.convert.Reads as convert
+
+pub convert-settled : (κs : Lfts 3) (a : Dens κs convert-kinds.ps) (r q : resT convert-kinds.r κs .Denot) (s t : AtExit (endedOf 3 convert-kinds.ps convert-kinds.r) κs)
+    → convert.Post κs a r s → convert.Post κs a q t → (r ≡ q) × (now (s .1 .1 .1 .0) ≡ now (t .1 .1 .1 .0))
+convert-settled κs a r q s t e f = let same = e ∙ sym f in (ap (λ (w : Wrote). w .answer) same, ap (λ (w : Wrote). w .output) same)
