@@ -40,6 +40,20 @@
  *   A literal is a 32-bit little-endian two's complement number: a variable, or minus a variable. A
  *   zero closes each clause. So clauses take four bytes for each literal and four for each clause.
  *
+ * DIMACS text, as it is written
+ *
+ *   `p cnf VARIABLES CLAUSES` and a newline. Then a line for each clause: its literals in decimal, a
+ *   space after each, then `0` and a newline.
+ *
+ * DIMACS text, as it is read
+ *
+ *   Any number of lines that start with `c`. Then the header line: `p`, `cnf`, the variables and the
+ *   clauses, with one or more spaces or tabs between and any number after. It ends with a newline. Then
+ *   literals and zeros, parted by one or more of space, tab, CR and LF. The same may stand before the
+ *   first and after the last. Numbers have no leading zero and no plus, and `-0` is wrong. There are
+ *   at most 40,000 variables, 65,534 clauses and 999,999 literals. A literal is at most the declared
+ *   variables in magnitude. There are exactly as many clauses as declared, and each is closed.
+ *
  * Every call
  *
  *   A buffer is lent as a pointer and its length in bytes. Buffers lent to one call must not overlap.
@@ -159,6 +173,26 @@ uint32_t simbolufa_choose(const uint8_t *table, size_t table_len, uint32_t optio
 uint32_t simbolufa_convert(const uint8_t *table, size_t table_len, uint32_t options, const uint8_t *set,
                            size_t set_len, uint8_t *out, size_t out_len, uint8_t *answer,
                            size_t answer_len);
+
+/*
+ * Writes clause bytes as DIMACS text. `variables` is the variable count that the header declares.
+ *
+ * Returns 0, 9, 7 or 11. On 0 the text is the first bytes of `text`, without a closing NUL, and the
+ * bytes after it are not changed. The text's last byte is the newline after the last clause, or after
+ * the header where there is no clause. The values of the answer part are the variables and the clauses.
+ */
+uint32_t simbolufa_write_dimacs(const uint8_t *clauses, size_t clauses_len, uint32_t variables,
+                                uint8_t *text, size_t text_len, uint8_t *answer, size_t answer_len);
+
+/*
+ * Reads DIMACS text into clause bytes. The text may be of any length.
+ *
+ * Returns 0, 8, 7 or 11. On 0 the clause bytes are the first bytes of `clauses`, and the bytes after
+ * them are not changed. The values of the answer part are the declared variables and clauses. What
+ * simbolufa_write_dimacs wrote comes back as it was.
+ */
+uint32_t simbolufa_read_dimacs(const uint8_t *text, size_t text_len, uint8_t *clauses, size_t clauses_len,
+                               uint8_t *answer, size_t answer_len);
 
 /* The four numbers of an answer part. */
 struct simbolufa_answer {

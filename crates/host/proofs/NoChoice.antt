@@ -15,6 +15,10 @@ use Rattle.host.proofs.simbolufa_choose.Kinds as choose-kinds
 use Rattle.host.proofs.simbolufa_choose.Reads as choose
 use Rattle.host.proofs.simbolufa_convert.Kinds as convert-kinds
 use Rattle.host.proofs.simbolufa_convert.Reads as convert
+use Rattle.host.proofs.simbolufa_write_dimacs.Kinds as write-dimacs-kinds
+use Rattle.host.proofs.simbolufa_write_dimacs.Reads as write-dimacs
+use Rattle.host.proofs.simbolufa_read_dimacs.Kinds as read-dimacs-kinds
+use Rattle.host.proofs.simbolufa_read_dimacs.Reads as read-dimacs
 
 pub check-settled : (κs : Lfts 2) (a : Dens κs check-kinds.ps) (r q : resT check-kinds.r κs .Denot) (s t : AtExit (endedOf 2 check-kinds.ps check-kinds.r) κs)
     → check.Post κs a r s → check.Post κs a q t → (r ≡ q) × (now (s .1 .1 .0) ≡ now (t .1 .1 .0))
@@ -31,3 +35,11 @@ choose-settled κs a r q s t e f = let same = e ∙ sym f in (ap (λ (l : Left).
 pub convert-settled : (κs : Lfts 4) (a : Dens κs convert-kinds.ps) (r q : resT convert-kinds.r κs .Denot) (s t : AtExit (endedOf 4 convert-kinds.ps convert-kinds.r) κs)
     → convert.Post κs a r s → convert.Post κs a q t → (r ≡ q) × (now (s .1 .1 .1 .0) ≡ now (t .1 .1 .1 .0)) × (now (s .1 .1 .1 .1 .0) ≡ now (t .1 .1 .1 .1 .0))
 convert-settled κs a r q s t e f = let same = e ∙ sym f in (ap (λ (l : Left). l .result) same, ap (λ (l : Left). l .output) same, ap (λ (l : Left). l .part) same)
+
+pub write-dimacs-settled : (κs : Lfts 3) (a : Dens κs write-dimacs-kinds.ps) (r q : resT write-dimacs-kinds.r κs .Denot) (s t : AtExit (endedOf 3 write-dimacs-kinds.ps write-dimacs-kinds.r) κs)
+    → write-dimacs.Post κs a r s → write-dimacs.Post κs a q t → (r ≡ q) × (now (s .1 .1 .0) ≡ now (t .1 .1 .0)) × (now (s .1 .1 .1 .0) ≡ now (t .1 .1 .1 .0))
+write-dimacs-settled κs a r q s t e f = let same = e ∙ sym f in (ap (λ (l : Left). l .result) same, ap (λ (l : Left). l .output) same, ap (λ (l : Left). l .part) same)
+
+pub read-dimacs-settled : (κs : Lfts 3) (a : Dens κs read-dimacs-kinds.ps) (r q : resT read-dimacs-kinds.r κs .Denot) (s t : AtExit (endedOf 3 read-dimacs-kinds.ps read-dimacs-kinds.r) κs)
+    → read-dimacs.Post κs a r s → read-dimacs.Post κs a q t → (r ≡ q) × (now (s .1 .0) ≡ now (t .1 .0)) × (now (s .1 .1 .0) ≡ now (t .1 .1 .0))
+read-dimacs-settled κs a r q s t e f = let same = e ∙ sym f in (ap (λ (l : Left). l .result) same, ap (λ (l : Left). l .output) same, ap (λ (l : Left). l .part) same)

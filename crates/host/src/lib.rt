@@ -5,6 +5,7 @@ ghost use Rattle.formula.specs.Checks.{checked};
 ghost use Rattle.totals.specs.Measured.{measured};
 ghost use Rattle.choose.specs.Chosen.{chosenBy};
 ghost use Rattle.convert.specs.Converted.{converted};
+ghost use Rattle.dimacs.specs.Calls.{writeCall, readCall};
 use answer::give;
 
 // Checks a formula table for a project of `options` options.
@@ -66,4 +67,31 @@ pub extern "C" fn simbolufa_convert(
         return 11;
     }
     give(convert::convert::convert(table, options, set, out), answer)
+}
+
+// Writes clause bytes as DIMACS text with `variables` declared: variables and clauses are reported.
+#[no_mangle]
+pub extern "C" fn simbolufa_write_dimacs(
+    clauses: &[u8],
+    variables: u32,
+    text: &mut [u8],
+    answer: &mut [u8],
+) -> u32
+    ensures { λ r. ⌜ record { result = r; output = now (text .exit); part = now (answer .exit) } ≡ leaves (now (answer .entry)) (now (text .entry)) (writeCall (now (clauses .entry)) variables (now (text .entry))) ⌝ }
+{
+    if answer.len() != 16 {
+        return 11;
+    }
+    give(dimacs::write(clauses, variables, text), answer)
+}
+
+// Reads DIMACS text as clause bytes: the declared variables and clauses are reported.
+#[no_mangle]
+pub extern "C" fn simbolufa_read_dimacs(text: &[u8], clauses: &mut [u8], answer: &mut [u8]) -> u32
+    ensures { λ r. ⌜ record { result = r; output = now (clauses .exit); part = now (answer .exit) } ≡ leaves (now (answer .entry)) (now (clauses .entry)) (readCall (now (text .entry)) (now (clauses .entry))) ⌝ }
+{
+    if answer.len() != 16 {
+        return 11;
+    }
+    give(dimacs::read(text, clauses), answer)
 }

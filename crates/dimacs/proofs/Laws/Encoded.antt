@@ -1,0 +1,149 @@
+-- Clauses as bytes, and bytes as clauses: each way and back.
+-- Assumes nothing.
+use mathlib.Core.Path.{_≡_, refl, ap, _∙_, subst, subst⁻¹}
+use mathlib.Core.Bool.{Bool, true, false, cond}
+use mathlib.Core.List.{List, [], _∷_, _++_, append-assoc}
+use Prim.Native.Nat.{ℕ, suc, _-_, _%_, _^_, _≤_, _<_}
+use native.Mathlib.Omega.{arith}
+use lib.Dec.{ltb}
+use lib.ListN.{length, getD}
+use borrow.Author.Tests.{eq-eqb, ne-eqb, lt-ltb, le-ltb}
+use Rattle.laws.specs.Bytes.{littleAt, little}
+use Rattle.laws.proofs.Bytes.{littleAt-little, little-littleAt}
+use Rattle.clausal.specs.Literals.{Literal, Clause, literalBytes, clauseBytes, clausesBytes}
+use Rattle.dimacs.specs.Limits.{mostVariables}
+use Rattle.dimacs.specs.Clauses as right
+use Rattle.dimacs.specs.Clauses.{Within, Right}
+use Rattle.dimacs.specs.Words.{wordsOf, literalOf, closedFrom, allWithin, ahead, clausesIn, wrongBytes, clausesOf}
+use Rattle.dimacs.proofs.Laws.Sizes.{length-clauses}
+use Rattle.dimacs.proofs.Laws.Stand.{Stand, no-word, a-zero, a-literal, stand, count-stand, literals-stand, within-stand, Small, no-small, a-small}
+use Rattle.dimacs.proofs.Laws.Words.{right-bytes, right-of-not-wrong}
+
+-- the word of a literal
+abbrev wordOf : Literal → ℕ
+wordOf l = cond (l .plain) (l .variable) (2 ^ 32 - l .variable)
+
+-- a literal of a declared variable is the literal of its word
+literal-word : (v : ℕ) → v ≤ mostVariables → (b : Bool) (z : ℕ) → 0 < z → z ≤ v
+    → let l : Literal = record { plain = b; variable = z } in (literalOf (wordOf l) ≡ l) × (wordOf l < 256 ^ 4) × (wordOf l ≡ 0 → ⊥)
+literal-word v few true z h g =
+    let t : ltb z (2 ^ 31) ≡ true = lt-ltb z (2 ^ 31) (omega arith) in
+    (rw t, omega arith, λ e. omega arith)
+literal-word v few false z h g =
+    let t : ltb (2 ^ 32 - z) (2 ^ 31) ≡ false = le-ltb (2 ^ 32 - z) (2 ^ 31) (omega arith) in
+    let e : 2 ^ 32 - (2 ^ 32 - z) ≡ z = omega arith in
+    (rw t (λ i. record { plain = false; variable = e i }), omega arith, λ e. omega arith)
+
+words-little : (x : ℕ) (r : List ℕ) → x < 256 ^ 4 → wordsOf (little 4 x ++ r) ≡ x ∷ wordsOf r
+unfolding wordsOf
+words-little x r h = ap (λ (y : ℕ). y ∷ wordsOf r) (littleAt-little 4 x r h)
+
+-- the bytes of right clauses stand for them
+stand-bytes : (v : ℕ) → v ≤ mostVariables → {cs : List Clause} → Within v cs → Stand (wordsOf (clausesBytes cs)) cs
+unfolding wordsOf
+stand-bytes v few right.none = no-word
+stand-bytes v few (right.closed w) = a-zero refl (stand-bytes v few w)
+stand-bytes v few (right.literal {l = l} {c = c} {cs = cs} h g w) =
+    let f = literal-word v few (l .plain) (l .variable) h g in
+    let x = wordOf l in
+    let e : clausesBytes ((l ∷ c) ∷ cs) ≡ little 4 x ++ clausesBytes (c ∷ cs) = append-assoc (literalBytes l) (clauseBytes c) (clausesBytes cs) in
+    subst⁻¹ (λ (ws : List ℕ). Stand ws ((l ∷ c) ∷ cs)) (ap wordsOf e ∙ words-little x (clausesBytes (c ∷ cs)) (f .1))
+    (subst (λ (y : Literal). Stand (x ∷ wordsOf (clausesBytes (c ∷ cs))) ((y ∷ c) ∷ cs)) (f .0) (a-literal (f .2) (stand-bytes v few w)))
+
+-- words stand for one list of clauses only
+clauses-stand : {ws : List ℕ} {cs : List Clause} → Stand ws cs → clausesIn ws ≡ cs
+unfolding clausesIn
+clauses-stand no-word = refl
+clauses-stand (a-zero {w = w} e s) = rw (eq-eqb w 0 e) (ap (λ (x : List Clause). [] ∷ x) (clauses-stand s))
+clauses-stand (a-literal {w = w} n s) = rw (ne-eqb w 0 n) (ap (ahead (literalOf w)) (clauses-stand s))
+
+closed-stand : (b : Bool) {ws : List ℕ} {cs : List Clause} → Stand ws cs → (cs ≡ [] → b ≡ true) → closedFrom b ws ≡ true
+unfolding closedFrom
+closed-stand b no-word h = h refl
+closed-stand b (a-zero {w = w} {ws = ws} e s) h = ap (λ (t : Bool). closedFrom t ws) (eq-eqb w 0 e) ∙ closed-stand true s (λ _. refl)
+closed-stand b (a-literal {w = w} {ws = ws} {c = c} {cs = cs} n s) h =
+    ap (λ (t : Bool). closedFrom t ws) (ne-eqb w 0 n) ∙ closed-stand false s (λ e. absurd (some-clause e))
+  where
+    some-clause : c ∷ cs ≡ [] → ⊥
+    some-clause e = let z : _≡_ {A = ℕ} 0 1 = cc in omega arith
+
+within-all : (v : ℕ) {ws : List ℕ} {cs : List Clause} → Stand ws cs → Within v cs → allWithin v ws ≡ true
+unfolding allWithin
+within-all v no-word w = refl
+within-all v (a-zero {w = x} e s) (right.closed w) =
+    let m : literalOf x .variable ≤ v = rw e (omega arith) in
+    rw (le-ltb v (literalOf x .variable) m) (within-all v s w)
+within-all v (a-literal {w = x} n s) (right.literal h g w) = rw (le-ltb v (literalOf x .variable) g) (within-all v s w)
+
+length-four : (cs : List Clause) → length (clausesBytes cs) % 4 ≡ 0
+length-four cs = omega (arith, length-clauses cs)
+
+-- right clauses have right bytes, which stand for them
+pub not-wrong-of-right : (v : ℕ) (cs : List Clause) → Right v cs → wrongBytes (clausesBytes cs) v ≡ false
+not-wrong-of-right v cs r =
+    let s = stand-bytes v (r .variables) (r .within) in
+    right-bytes (clausesBytes cs) v (length-four cs) (closed-stand true s (λ _. refl)) (within-all v s (r .within)) (r .variables)
+    (omega (arith, count-stand s, r .clauses)) (omega (arith, literals-stand s, r .literals))
+
+pub clauses-of-bytes : (v : ℕ) (cs : List Clause) → Right v cs → clausesOf (clausesBytes cs) ≡ cs
+clauses-of-bytes v cs r = clauses-stand (stand-bytes v (r .variables) (r .within))
+
+-- bytes of words
+abbrev bytesOf : List ℕ → List ℕ
+bytesOf [] = []
+bytesOf (w ∷ ws) = little 4 w ++ bytesOf ws
+
+word-bytes : (w : ℕ) → w < 2 ^ 32 → literalBytes (literalOf w) ≡ little 4 w
+word-bytes w h = go (ltb w (2 ^ 31)) refl
+  where
+    go : (b : Bool) → ltb w (2 ^ 31) ≡ b → literalBytes (literalOf w) ≡ little 4 w
+    go true e = rw e
+    go false e = rw e (ap (little 4) (omega arith))
+
+bytes-stand : {ws : List ℕ} {cs : List Clause} → Stand ws cs → Small ws → clausesBytes cs ≡ bytesOf ws
+bytes-stand no-word k = refl
+bytes-stand (a-zero {w = w} e s) (a-small h k) = rw e (ap (λ (r : List ℕ). little 4 0 ++ r) (bytes-stand s k))
+bytes-stand (a-literal {w = w} {c = c} {cs = cs} n s) (a-small h k) =
+    append-assoc (literalBytes (literalOf w)) (clauseBytes c) (clausesBytes cs)
+    ∙ ap (λ (x : List ℕ). x ++ clausesBytes (c ∷ cs)) (word-bytes w h)
+    ∙ ap (λ (r : List ℕ). little 4 w ++ r) (bytes-stand s k)
+
+-- below 256 each
+abbrev pub Bytes : List ℕ → Type 0
+Bytes l = (i : ℕ) → getD l i 0 < 256
+
+words-small : (l : List ℕ) → Bytes l → Small (wordsOf l)
+unfolding wordsOf
+words-small [] b = no-small
+words-small (a ∷ []) b = no-small
+words-small (a ∷ e ∷ []) b = no-small
+words-small (a ∷ e ∷ c ∷ []) b = no-small
+words-small (a ∷ e ∷ c ∷ d ∷ t) b = a-small {w = littleAt 4 (a ∷ e ∷ c ∷ d ∷ t) 0} (omega (arith, b 0, b 1, b 2, b 3))
+    (words-small t (λ i. b (suc (suc (suc (suc i))))))
+
+words-back : (l : List ℕ) → length l % 4 ≡ 0 → Bytes l → bytesOf (wordsOf l) ≡ l
+unfolding wordsOf
+words-back [] h b = refl
+words-back (a ∷ []) h b = absurd (omega arith)
+words-back (a ∷ e ∷ []) h b = absurd (omega arith)
+words-back (a ∷ e ∷ c ∷ []) h b = absurd (omega arith)
+words-back (a ∷ e ∷ c ∷ d ∷ t) h b =
+    ap (λ (x : List ℕ). x ++ bytesOf (wordsOf t)) (little-littleAt 4 (a ∷ e ∷ c ∷ d ∷ t) 0 (omega arith) b)
+    ∙ ap (λ (x : List ℕ). a ∷ e ∷ c ∷ d ∷ x) (words-back t (omega arith) (λ i. b (suc (suc (suc (suc i))))))
+
+-- right bytes stand for right clauses, whose bytes they are
+pub right-of-bytes : (bytes : List ℕ) (v : ℕ) → Bytes bytes → wrongBytes bytes v ≡ false → Right v (clausesOf bytes)
+right-of-bytes bytes v b e =
+    let r = right-of-not-wrong bytes v e in
+    let s = stand true (wordsOf bytes) (r .last) in
+    record {
+      variables = r .variables;
+      clauses = omega (arith, count-stand s, r .clauses);
+      literals = omega (arith, literals-stand s, r .literals);
+      within = within-stand v s (words-small bytes b) (r .within);
+    }
+
+pub bytes-back : (bytes : List ℕ) (v : ℕ) → Bytes bytes → wrongBytes bytes v ≡ false → clausesBytes (clausesOf bytes) ≡ bytes
+bytes-back bytes v b e =
+    let r = right-of-not-wrong bytes v e in
+    bytes-stand (stand true (wordsOf bytes) (r .last)) (words-small bytes b) ∙ words-back bytes (r .whole) b

@@ -1,0 +1,14 @@
+-- `dimacs::state::State::begin` meets its contract: the digit is at most the variables, or not. Assumes nothing.
+use borrow.Author.Needs.{needs}
+use borrow.Author.Tests.{lt-ltb, le-ltb}
+use Rattle.dimacs.proofs.state.State.begin.Statement.{statement}
+use Rattle.dimacs.proofs.state.State.begin.Tie as tie
+
+pub begin-spec : {M : Type 1} → statement M
+begin-spec =
+    tie.close
+    (tie.spec
+    (λ c κs. search needs)
+    (λ c. rw (lt-ltb _ _ (c .before .if1 .taken)) (c .dead .ensures))
+    (λ c κs. search needs)
+    (λ c. rw (le-ltb _ _ (c .before .if1 .left)) (c .enter .ensures)))

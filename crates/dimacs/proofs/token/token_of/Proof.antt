@@ -1,0 +1,63 @@
+-- `dimacs::token::token_of` meets its contract: each arm is a case of the definition. Assumes nothing.
+use mathlib.Core.Path.{sym, ap}
+use borrow.Author.Needs.{needs}
+use Rattle.dimacs.specs.Reader.{tokenOf}
+use Rattle.dimacs.proofs.token.token_of.Statement.{statement}
+use Rattle.dimacs.proofs.token.token_of.Tie as tie
+
+pub token-of-spec : {M : Type 1} → statement M
+token-of-spec =
+    tie.close
+    (tie.spec
+    (λ c. search needs)
+    (λ c. search needs)
+    (λ c. search needs)
+    (λ c. search needs)
+    (λ c. search needs)
+    (λ c. search needs)
+    (λ c. search needs)
+    (λ c. search needs)
+    (λ c. search needs)
+    (λ c. search needs)
+    (λ c. search needs)
+    (λ c. search needs)
+    (λ c. search needs)
+    (λ c. search needs)
+    (λ c. search needs)
+    (λ c. search needs)
+    (λ c. search needs)
+    (λ c. search needs)
+    (λ c. search needs)
+    (λ c. search needs)
+    (λ c. search needs)
+    (λ c. search needs)
+    (λ c. search needs)
+    (λ c. search needs)
+    (λ c. search needs)
+    (λ c. search needs)
+    (λ c. sym (ap tokenOf (c .enum-told .given .1)))
+    (λ c. sym (ap tokenOf (c .enum-told2 .given .1)))
+    (λ c. sym (ap tokenOf (c .enum-told3 .given .1)))
+    (λ c. sym (ap tokenOf (c .enum-told4 .given .1)))
+    (λ c. sym (ap tokenOf (c .enum-told5 .given .1)))
+    (λ c. sym (ap tokenOf (c .enum-told6 .given .1)))
+    (λ c. sym (ap tokenOf (c .enum-told7 .given .1)))
+    (λ c. sym (ap tokenOf (c .enum-told8 .given .1)))
+    (λ c. sym (ap tokenOf (c .enum-told9 .given .1)))
+    (λ c. sym (ap tokenOf (c .enum-told10 .given .1)))
+    (λ c. sym (ap tokenOf (c .enum-told11 .given .1)))
+    (λ c. sym (ap tokenOf (c .enum-told12 .given .1)))
+    (λ c. sym (ap tokenOf (c .enum-told13 .given .1)))
+    (λ c. sym (ap tokenOf (c .enum-told14 .given .1)))
+    (λ c. sym (ap tokenOf (c .enum-told15 .given .1)))
+    (λ c. sym (ap tokenOf (c .enum-told16 .given .1)))
+    (λ c. sym (ap tokenOf (c .enum-told17 .given .1)))
+    (λ c. sym (ap tokenOf (c .enum-told18 .given .1)))
+    (λ c. sym (ap tokenOf (c .enum-told19 .given .1)))
+    (λ c. sym (ap tokenOf (c .enum-told20 .given .1)))
+    (λ c. sym (ap tokenOf (c .enum-told21 .given .1)))
+    (λ c. sym (ap tokenOf (c .enum-told22 .given .1)))
+    (λ c. sym (ap tokenOf (c .enum-told23 .given .1)))
+    (λ c. sym (ap tokenOf (c .enum-told24 .given .1)))
+    (λ c. sym (ap tokenOf (c .enum-told25 .given .1)))
+    (λ c. sym (ap tokenOf (c .enum-told26 .given .1))))

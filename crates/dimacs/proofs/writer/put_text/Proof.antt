@@ -1,0 +1,40 @@
+-- `dimacs::writer::put_text` meets its contract: the header line, and the lines behind it. Assumes nothing.
+use mathlib.Core.Path.{refl}
+use mathlib.Core.List.{List, _++_}
+use Prim.Native.Nat.{ℕ, _+_, _≤_}
+use native.Mathlib.Omega.{arith}
+use borrow.Author.Needs.{needs}
+use lib.ListN.{length}
+use Rattle.dimacs.specs.Words.{wordsOf}
+use Rattle.dimacs.specs.Written.{headerLine, wordsText, Wrote}
+use Rattle.dimacs.proofs.Laws.Writing.{room-left, room-right, wrote-both}
+use Rattle.dimacs.proofs.writer.put_text.Statement.{statement}
+use Rattle.dimacs.proofs.writer.put_text.Tie as tie
+
+abbrev head : tie.Start → List ℕ
+head s = headerLine (s .args .variables) (s .args .clauses)
+
+abbrev lines : tie.Start → List ℕ
+lines s = wordsText (wordsOf (s .args .bytes .now))
+
+room : (s : tie.Start) → 0 + length (head s ++ lines s) ≤ length (s .args .text .now)
+room s = omega (arith, s .pre .1)
+
+returns : tie.Need-returns
+returns c =
+    let q = c .before .before in
+    let p = q .before .before .before .before in
+    let s = p .before .before .before .before in
+    let w : Wrote (p .put-header .last .0) (p .put-header .result) (lines s) (q .put-words .last .1 .0) _ =
+    record { place = refl; list = q .put-words .ensures } in
+    wrote-both (s .args .text .now) 0 (head s) (lines s) (room s) (p .put-header .ensures) w .list
+
+pub put-text-spec : {M : Type 1} → statement M
+put-text-spec =
+    tie.close
+    (tie.spec
+    (λ c κs. let s = c .before .before .before in omega (arith, room-left (s .args .text .now) 0 (head s) (lines s) (room s)))
+    (λ c κs. let p = c .before .before .before in let s = p .before .before .before .before in
+    (s .pre .0, room-right (s .args .text .now) 0 (head s) (lines s) (room s) (p .put-header .ensures)))
+    (λ c. search needs)
+    returns)

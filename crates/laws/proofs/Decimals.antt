@@ -1,0 +1,104 @@
+-- Decimals: how they begin, how they go on by one digit, and how a reader takes them in.
+-- Assumes nothing.
+use mathlib.Core.Path.{_≡_, refl, sym, ap, _∙_, subst}
+use mathlib.Core.Bool.{Bool, true, false}
+use mathlib.Core.List.{List, [], _∷_, _++_, append-assoc}
+use Prim.Native.Nat.{ℕ, zero, suc, _+_, _*_, _/_, _%_, _^_, _≤_, _<_}
+use native.Mathlib.Nat.{pow-suc}
+use native.Mathlib.Omega.{arith}
+use lib.Dec.{ltb}
+use lib.ListN.{length, length-append}
+use borrow.Author.Tests.{lt-ltb, le-ltb, ltb-true, ltb-false}
+use Rattle.laws.specs.Decimals.{digits, decimal}
+
+-- any bound that is large enough will do
+digits-bound : (k j n : ℕ) → n ≤ k → n ≤ j → digits k n ≡ digits j n
+unfolding digits
+digits-bound zero zero n h g = refl
+digits-bound zero (suc j) n h g = rw (lt-ltb n 10 (omega arith))
+digits-bound (suc k) zero n h g = rw (lt-ltb n 10 (omega arith))
+digits-bound (suc k) (suc j) n h g = go (ltb n 10) refl (digits-bound k j (n / 10))
+  where
+    go : (b : Bool) → ltb n 10 ≡ b → (n / 10 ≤ k → n / 10 ≤ j → digits k (n / 10) ≡ digits j (n / 10)) → digits (suc k) n ≡ digits (suc j) n
+    go true e ih = rw e
+    go false e ih =
+        let l : 10 ≤ n = ltb-false n 10 e in
+        rw e (ap (λ (l : List ℕ). l ++ ((48 + n % 10) ∷ [])) (ih (omega arith) (omega arith)))
+
+-- one digit
+pub decimal-one : (n : ℕ) → n < 10 → decimal n ≡ (48 + n) ∷ []
+unfolding digits
+decimal-one zero h = refl
+decimal-one (suc n) h = rw (lt-ltb (suc n) 10 h)
+
+-- the last digit, behind the others
+pub decimal-last : (n : ℕ) → 10 ≤ n → decimal n ≡ decimal (n / 10) ++ ((48 + n % 10) ∷ [])
+unfolding digits
+decimal-last zero h = absurd (omega arith)
+decimal-last (suc n) h =
+    rw (le-ltb (suc n) 10 h) (ap (λ (l : List ℕ). l ++ ((48 + suc n % 10) ∷ [])) (digits-bound n (suc n / 10) (suc n / 10) (omega arith) (omega arith)))
+
+-- one digit more
+pub decimal-more : (x d : ℕ) → 0 < x → d < 10 → decimal (x * 10 + d) ≡ decimal x ++ ((48 + d) ∷ [])
+decimal-more x d h g =
+    let q : (x * 10 + d) / 10 ≡ x = omega arith in
+    let r : (x * 10 + d) % 10 ≡ d = omega arith in
+    decimal-last (x * 10 + d) (omega arith) ∙ rw (q, r)
+
+-- there is a digit
+pub decimal-some : (n : ℕ) → 0 < length (decimal n)
+decimal-some n = go (ltb n 10) refl
+  where
+    go : (b : Bool) → ltb n 10 ≡ b → 0 < length (decimal n)
+    go true e = rw (decimal-one n (ltb-true n 10 e)) (omega arith)
+    go false e = rw (decimal-last n (ltb-false n 10 e), length-append) (omega arith)
+
+-- A reader of numbers from `low`, which is 0 or 1, up to a limit.
+-- `Before r`: it is right before a number and r is to come; `After x r`: it has taken in x.
+module _ (low limit : ℕ) (small : low ≤ 1) (Before : List ℕ → Type 0) (After : ℕ → List ℕ → Type 0)
+    (first : (d : ℕ) (r : List ℕ) → low ≤ d → d < 10 → d ≤ limit → After d r → Before ((48 + d) ∷ r))
+    (more : (x d : ℕ) (r : List ℕ) → 0 < x → d < 10 → x * 10 + d ≤ limit → After (x * 10 + d) r → After x ((48 + d) ∷ r)) where
+  taken : (k n : ℕ) (r : List ℕ) → n ≤ k → low ≤ n → n ≤ limit → After n r → Before (decimal n ++ r)
+  taken zero n r h m l a =
+      subst (λ (x : List ℕ). Before (x ++ r)) (sym (decimal-one n (omega arith))) (first n r m (omega arith) l a)
+  taken (suc k) n r h m l a = go (ltb n 10) refl (taken k)
+    where
+      go : (b : Bool) → ltb n 10 ≡ b → ((n : ℕ) (r : List ℕ) → n ≤ k → low ≤ n → n ≤ limit → After n r → Before (decimal n ++ r)) → Before (decimal n ++ r)
+      go true e ih =
+          let g : n < 10 = ltb-true n 10 e in
+          subst (λ (x : List ℕ). Before (x ++ r)) (sym (decimal-one n g)) (first n r m g l a)
+      go false e ih =
+          let g : 10 ≤ n = ltb-false n 10 e in
+          let s : n / 10 * 10 + n % 10 ≡ n = omega arith in
+          let q : decimal n ++ r ≡ decimal (n / 10) ++ ((48 + n % 10) ∷ r) =
+          ap (λ (x : List ℕ). x ++ r) (decimal-last n g) ∙ append-assoc (decimal (n / 10)) ((48 + n % 10) ∷ []) r in
+          subst Before (sym q)
+          (ih (n / 10) ((48 + n % 10) ∷ r) (omega arith) (omega arith) (omega arith)
+          (more (n / 10) (n % 10) r (omega arith) (omega arith) (omega arith) (subst (λ (x : ℕ). After x r) (sym s) a)))
+
+  pub decimal-taken : (n : ℕ) (r : List ℕ) → low ≤ n → n ≤ limit → After n r → Before (decimal n ++ r)
+  decimal-taken n r m l a = taken n n r (omega arith) m l a
+
+one-le-pow : (k : ℕ) → 1 ≤ 10 ^ k
+one-le-pow zero = omega arith
+one-le-pow (suc k) = omega (arith, pow-suc 10 k, one-le-pow k)
+
+-- the number of digits
+pub length-decimal : (k n : ℕ) → 10 ^ k ≤ n → n < 10 ^ suc k → length (decimal n) ≡ suc k
+length-decimal zero n h g = ap length (decimal-one n g)
+length-decimal (suc k) n h g =
+    let e = length-decimal k (n / 10) in
+    let a : 10 ^ k ≤ n / 10 = omega (arith, pow-suc 10 k) in
+    let b : n / 10 < 10 ^ suc k = omega (arith, pow-suc 10 (suc k)) in
+    let t : 10 ≤ n = omega (arith, pow-suc 10 k, one-le-pow k) in
+    ap length (decimal-last n t) ∙ length-append (decimal (n / 10)) ((48 + n % 10) ∷ []) ∙ omega (arith, e a b)
+
+pub length-decimal-le : (k n : ℕ) → n < 10 ^ suc k → length (decimal n) ≤ suc k
+length-decimal-le zero n h = omega (arith, ap length (decimal-one n h))
+length-decimal-le (suc k) n h = go (ltb n 10) refl (length-decimal-le k (n / 10))
+  where
+    go : (b : Bool) → ltb n 10 ≡ b → (n / 10 < 10 ^ suc k → length (decimal (n / 10)) ≤ suc k) → length (decimal n) ≤ suc (suc k)
+    go true e ih = omega (arith, ap length (decimal-one n (ltb-true n 10 e)))
+    go false e ih =
+        let g : n / 10 < 10 ^ suc k = omega (arith, pow-suc 10 (suc k)) in
+        omega (arith, ih g, ap length (decimal-last n (ltb-false n 10 e)) ∙ length-append (decimal (n / 10)) ((48 + n % 10) ∷ []))
