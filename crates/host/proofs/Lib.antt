@@ -1,2 +1,3 @@
 -- Theorems of the entries.
 pub mod NoChoice
+pub mod Promise
