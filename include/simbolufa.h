@@ -28,8 +28,8 @@
  *   define it.
  *
  *   To solve two guards together, convert the second with V set to the variables that the first one
- *   reported. Then no helper of one is a symbol or a helper of the other. Where that is over 32,000, the
- *   most options, the second conversion is refusal 2.
+ *   reported. Then no helper of one is a symbol or a helper of the other. Where those variables are
+ *   over 32,000, the most options, the second call is refusal 2.
  *
  * Totals
  *
