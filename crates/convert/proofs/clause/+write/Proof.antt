@@ -49,7 +49,10 @@ Start t = lts.Start (calls t) (at t) write.Post
 -- the step leads to the clause
 module _ (t : ℕ) (c : Led t) where
   abbrev st : Start t
-  st = c .before .before .before .before .before .before .before .before .before
+  st =
+      let back = c .before .before .before .before in
+      let further = back .before .before .before .before in
+      further .before
 
   abbrev Leads : Step → Type 0
   Leads = LeadsTo (st .args .options) (st .args .set .now) (nodesOf (st .args .table .now)) (st .args .way .node)
@@ -76,7 +79,8 @@ module _ (t : ℕ) (c : Led t) where
 
 asked : (t : ℕ) → lts.Need-lead-requires (calls t) (at t) write.Post
 asked t c κs =
-    let s = c .before .before .before .before .before .before .before .before in
+    let back = c .before .before .before .before in
+    let s = back .before .before .before .before in
     let a = s .args in
     let ok = s .pre .1 .0 in (
       omega (arith, s .pre .1 .1 .inside, length-nodesOf (a .table .now), ok .right .most),
@@ -99,7 +103,8 @@ literal-room t c κs =
 
 literal-fits : (t : ℕ) → lts.Need-add-result (calls t) (at t) write.Post
 literal-fits t c =
-    let step = c .before .before .before .before .before in
+    let back = c .before .before .before .before in
+    let step = back .before in
     let s = st t (step .before .before) in
     record { fits = omega (arith, s .pre .1 .1 .room, ap length (literal-says t step .is), s .good .1 .1 .1 .1 .1 .1 .1 .1 .1 .1 .0 .0) }
 

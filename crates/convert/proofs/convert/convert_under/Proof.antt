@@ -7,13 +7,21 @@ use Rattle.convert.proofs.convert.convert_under.Tie as tie
 
 -- from what is handed over back to the sum, from the sum to the totals of the nodes, from the check of the set to the entry
 abbrev summed : tie.After-write-under-arg9 → tie.After-whole
-summed c = c .before .before .before .before .before .before .before .before .before .before .before
+summed c =
+    let back = c .before .before .before .before in
+    let further = back .before .before .before .before in
+    further .before .before .before
 
 abbrev totalled : tie.After-whole → tie.After-node-totals
-totalled c = c .before .before .before .before .before .before .before .before .before .before .before
+totalled c =
+    let back = c .before .before .before .before in
+    let further = back .before .before .before .before in
+    further .before .before .before
 
 abbrev entered : tie.After-check → tie.Start
-entered c = c .before .before .before .before .before .before
+entered c =
+    let back = c .before .before .before .before in
+    back .before .before
 
 set-refused : tie.Need-returns
 set-refused c =

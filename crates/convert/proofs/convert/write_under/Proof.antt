@@ -24,7 +24,10 @@ use Rattle.convert.proofs.convert.write_under.Tie as tie
 -- the place behind the test of the totals
 module _ (c : tie.After-fit) where
   abbrev st : tie.Start
-  st = c .before .before .before .before .before .before .before .before .before
+  st =
+      let back = c .before .before .before .before in
+      let further = back .before .before .before .before in
+      further .before
 
   abbrev size : Size
   size = sizeOf (outputOf (st .args .options) (st .args .set .now) (nodesOf (st .args .table .now)))

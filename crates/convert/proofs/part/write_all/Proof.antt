@@ -65,7 +65,10 @@ module _ (c : tie.After-write-part Inv-loop μ-loop) where
   asked = c .before .before
 
   abbrev start : tie.Start Inv-loop μ-loop
-  start = asked .before .before .before .before .before .before .before .before .before
+  start =
+      let back = asked .before .before .before .before in
+      let further = back .before .before .before .before in
+      further .before
 
   abbrev first : List ℕ
   first = c .write-part .last .1 .1 .1 .1 .1 .1 .1 .1 .1 .1 .1 .1 .1 .0
@@ -91,12 +94,16 @@ module _ (c : tie.After-write-part Inv-loop μ-loop) where
 
 some : tie.Need-sub-write-part Inv-loop μ-loop
 some c =
-    let s = c .before .before .before .before .before .before .before .before .before in
+    let back = c .before .before .before .before in
+    let further = back .before .before .before .before in
+    let s = further .before in
     s .pre .0 .right .some
 
 root-due : tie.Need-write-part-requires Inv-loop μ-loop
 root-due c κs =
-    let s = c .before .before .before .before .before .before .before .before .before .before in
+    let back = c .before .before .before .before in
+    let further = back .before .before .before .before in
+    let s = further .before .before in
     let t = s .args .table .now in (
       s .pre .0,
       record {
@@ -135,7 +142,8 @@ definition-due c κs =
 
 add-i : tie.Need-add-i Inv-loop μ-loop
 add-i c =
-    let loop = c .before .before .before .before .before in
+    let back = c .before .before .before .before in
+    let loop = back .before in
     let s = start (loop .before .before .before) in
     record { fits = omega (arith, s .pre .0 .right .most) }
 

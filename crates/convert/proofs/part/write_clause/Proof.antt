@@ -35,7 +35,10 @@ abbrev Behind : Type 0
 Behind = lts.After-put-word2 calls reads.Pre reads.Post
 
 abbrev asked : lts.After-put-word-arg calls reads.Pre reads.Post → Start
-asked c = c .before .before .before .before .before .before .before .before .before
+asked c =
+    let back = c .before .before .before .before in
+    let further = back .before .before .before .before in
+    further .before
 
 abbrev start : Front → Start
 start c = asked (c .before)
@@ -83,7 +86,8 @@ zero-room c κs =
 
 fits : tie.Need-add-result
 fits c =
-    let b = c .before .before .before .before .before .before in
+    let back = c .before .before .before .before in
+    let b = back .before .before in
     let l = literals b in
     let f = front l in
     let s = start f in

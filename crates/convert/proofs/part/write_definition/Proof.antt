@@ -57,7 +57,10 @@ Downed = lts.After-write-part calls reads.Pre reads.Post
 
 module _ (c : Helped) where
   abbrev st : lts.Start calls reads.Pre reads.Post
-  st = c .before .before .before .before .before .before .before .before .before .before
+  st =
+      let back = c .before .before .before .before in
+      let further = back .before .before .before .before in
+      further .before .before
 
   -- the helper is the rules'
   helper-is : c .entry .result ≡ cond (renamed (st .args .set .now) (st .args .i)) (helperOf (st .args .options) (st .args .set .now) (st .args .i)) 0

@@ -31,7 +31,10 @@ Counted = tie.After-part-count Inv-loop μ-loop
 
 module _ (c : Counted) where
   abbrev st : tie.Start Inv-loop μ-loop
-  st = c .before .before .before .before .before .before .before .before .before
+  st =
+      let back = c .before .before .before .before in
+      let further = back .before .before .before .before in
+      further .before
 
   abbrev own : List Clause
   own = listOf (st .args .options) (st .args .set .now) (nodesOf (st .args .table .now)) true (st .args .sign) (st .args .node)
@@ -91,7 +94,8 @@ same-length c =
 
 add-k : tie.Need-add-k Inv-loop μ-loop
 add-k c =
-    let loop = c .before .before .before .before .before in
+    let back = c .before .before .before .before in
+    let loop = back .before in
     record { fits = omega (arith, counted (loop .before), st (loop .before) .pre .1 .short) }
 
 returns : tie.Need-returns Inv-loop μ-loop

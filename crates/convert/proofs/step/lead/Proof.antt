@@ -16,7 +16,8 @@ use Rattle.convert.proofs.step.lead.Tie as tie
 -- the helper that was looked at
 helper-is : (c : tie.After-pick-helper) → c .pick-helper .result ≡ cond (c .before .before .before .before .before .before .before .before .args .own) 0 (lib.ListN.getD (c .before .before .before .before .before .before .before .before .args .helpers .now) (c .before .before .before .before .before .before .before .before .args .way .node) 0)
 helper-is c =
-    let start = c .before .before .before .before .before .before .before .before in
+    let back = c .before .before .before .before in
+    let start = back .before .before .before .before in
     c .pick-helper .ensures ∙ ap (λ (h : ℕ). cond (start .args .own) 0 h) (c .before .entry .ensures)
 
 helper-literal : tie.Need-returns
@@ -27,7 +28,9 @@ helper-literal c =
 -- the literal total that was looked at
 literals-are : (c : tie.After-literals) → c .literals .result ≡ cond (c .before .before .before .before .before .before .before .before .before .before .before .args .way .sign) (lib.ListN.getD (c .before .before .before .before .before .before .before .before .before .before .before .args .p-literals .now) (c .before .before .before .before .before .before .before .before .before .before .before .args .way .node) 0) (lib.ListN.getD (c .before .before .before .before .before .before .before .before .before .before .before .args .n-literals .now) (c .before .before .before .before .before .before .before .before .before .before .before .args .way .node) 0)
 literals-are c =
-    let start = c .before .before .before .before .before .before .before .before .before .before .before in
+    let back = c .before .before .before .before in
+    let further = back .before .before .before .before in
+    let start = further .before .before .before in
     c .literals .ensures ∙ ap (λ (r : Row Size). cond (start .args .way .sign) (r .P .literals) (r .N .literals)) (c .before .row-at .ensures)
 
 nothing : tie.Need-returns-2
@@ -37,7 +40,10 @@ nothing c =
 
 asked : tie.Need-by-kind-requires
 asked c κs =
-    let start = c .before .before .before .before .before .before .before .before .before .before .before .before .before in
+    let back = c .before .before .before .before in
+    let further = back .before .before .before .before in
+    let farther = further .before .before .before .before in
+    let start = farther .before in
     subst⁻¹ SymbolRight (c .node-at .ensures) (start .pre .1)
 
 kind-step : tie.Need-returns-3
@@ -45,7 +51,9 @@ kind-step c =
     let node = c .before in
     let if2 = node .before in
     let if1 = if2 .before .before .before in
-    let a = if1 .before .before .before .before .before .before .before .before .before .args in
+    let back = if1 .before .before .before .before in
+    let further = back .before .before .before .before in
+    let a = further .before .args in
     rw (← helper-is (if1 .before), eq-eqb _ 0 (if1 .if1 .left), ← literals-are (if2 .before), ne-eqb _ 0 (if2 .if2 .left))
     (c .by-kind .ensures ∙ ap (λ (m : Node). kindStep (a .helpers .now) (a .p-clauses .now) (a .n-clauses .now) m (a .way .sign) (a .way .k)) (node .node-at .ensures))
 
