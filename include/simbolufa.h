@@ -61,7 +61,7 @@
  *   A null pointer with length 0 is fine, and so is any alignment. No pointer is kept after the call.
  *   A call allocates nothing, keeps no state and always ends. It may run in several threads at once.
  *
- *   Deepest stack as measured, x86-64: check, write_dimacs and read_dimacs 1 KiB, choose 11 KiB, measure
+ *   Deepest stack as measured once, x86-64: check, write_dimacs and read_dimacs 1 KiB, choose 11 KiB, measure
  *   34 KiB. simbolufa_convert takes 58 KiB, or for deep tables 432 bytes for each node that is nested in
  *   another: 474 KiB for 1,024 nested nodes. So convert from a thread with a stack of 512 KiB.
  *
