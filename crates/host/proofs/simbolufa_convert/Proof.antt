@@ -8,7 +8,8 @@ use Rattle.host.proofs.simbolufa_convert.Tie as tie
 
 part-wrong : tie.Need-returns
 part-wrong c =
-    let args = c .before .before .before .before .before .args in
+    let known = c .before .before .before .before in
+    let args = known .before .args in
     leaves-wrong (args .answer .now) (args .out .now) (converted (args .table .now) (args .options) (args .set .now) (args .out .now)) (c .if1 .taken)
 
 answered : tie.Need-returns-2
@@ -16,7 +17,8 @@ answered c =
     let give = c .before .before in
     let convert = give .before .before .before .before in
     let if1 = convert .before .before in
-    let args = if1 .before .before .before .before .before .args in
+    let known = if1 .before .before .before .before in
+    let args = known .before .args in
     leaves-right (args .answer .now) (args .out .now) (converted (args .table .now) (args .options) (args .set .now) (args .out .now))
     (record { answer = convert .convert .result; output = convert .convert .last .1 .1 .1 .0 }) (record { result = give .give .result; part = give .give .last .1 .0 })
     (if1 .if1 .left) (convert .convert .ensures) (give .give .ensures)
