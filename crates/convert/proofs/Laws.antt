@@ -7,3 +7,4 @@ pub mod Helpers
 pub mod Leads
 pub mod Parts
 pub mod Wrote
+pub mod Waiting

@@ -7,8 +7,12 @@ use crate::step::Way;
 use crate::step::lead;
 use answer::put;
 
-// Writes the literals of a clause from `at` on, and returns the next place. The node number falls at each call.
-// `options` and `set` are what the promise speaks of: the code reads the helpers that were made of them.
+// How many clauses wait in one call.
+const MOST_WAITING: usize = 16;
+
+// Writes the literals of a clause from `at` on, and returns the next place. Of two children's clauses the right one waits
+// until the left one is written. Where no more can wait, the left one is written by a call of its own. The node number
+// falls at each call. `options` and `set` are what the promise speaks of: the code reads the helpers that were made of them.
 pub fn write<'a>(
     table: &[u8],
     options: u32,
@@ -27,65 +31,63 @@ pub fn write<'a>(
     requires { ⌜ Due (now table) options (now set) own way (now out) at ⌝ }
     ensures { λ r. ⌜ Wrote (wayClause options (now (set .entry)) (nodesOf (now (table .entry))) own way) (now (out .entry)) at r (now (out .exit)) ⌝ }
 {
-    let step = lead(
-        table,
-        helpers,
-        p_clauses,
-        p_literals,
-        n_clauses,
-        n_literals,
-        own,
-        way,
-    );
-    match step {
-        Step::Nothing => at,
-        Step::Literal(word) => {
-            put(out, at, word);
-            at + 4
-        }
-        Step::One(child) => write(
+    let mut later = [Way {
+        node: 0,
+        sign: false,
+        k: 0,
+    }; 16];
+    later[0] = way;
+    let mut waiting = 1;
+    let mut first = own;
+    let mut next = at;
+    while waiting > 0 {
+        waiting -= 1;
+        let here = later[waiting];
+        let step = lead(
             table,
-            options,
-            set,
             helpers,
             p_clauses,
             p_literals,
             n_clauses,
             n_literals,
-            false,
-            child,
-            out,
-            at,
-        ),
-        Step::Two(left, right) => {
-            let next = write(
-                table,
-                options,
-                set,
-                helpers,
-                p_clauses,
-                p_literals,
-                n_clauses,
-                n_literals,
-                false,
-                left,
-                out,
-                at,
-            );
-            write(
-                table,
-                options,
-                set,
-                helpers,
-                p_clauses,
-                p_literals,
-                n_clauses,
-                n_literals,
-                false,
-                right,
-                out,
-                next,
-            )
+            first,
+            here,
+        );
+        first = false;
+        match step {
+            Step::Nothing => {}
+            Step::Literal(word) => {
+                put(out, next, word);
+                next += 4;
+            }
+            Step::One(child) => {
+                later[waiting] = child;
+                waiting += 1;
+            }
+            Step::Two(left, right) => {
+                later[waiting] = right;
+                waiting += 1;
+                if waiting < MOST_WAITING {
+                    later[waiting] = left;
+                    waiting += 1;
+                } else {
+                    next = write(
+                        table,
+                        options,
+                        set,
+                        helpers,
+                        p_clauses,
+                        p_literals,
+                        n_clauses,
+                        n_literals,
+                        false,
+                        left,
+                        out,
+                        next,
+                    );
+                }
+            }
         }
     }
+    next
 }

@@ -1,11 +1,12 @@
 -- `convert::clause::write` meets its contract: each step leads to the clause, through children whose numbers are lower.
--- The measure is the node number. Assumes nothing.
-use mathlib.Core.Path.{_≡_, sym, ap, _∙_, subst}
-use mathlib.Core.Bool.{Bool, false}
-use mathlib.Core.List.{List}
-use Prim.Native.Nat.{ℕ, _+_, _*_, _<_, _≤_}
+-- The loop's invariant: a part of the clause is written, and the rest waits. The measures are the node number and what there is to do below
+-- the waiting nodes. Assumes nothing.
+use mathlib.Core.Path.{_≡_, refl, sym, ap, _∙_, subst, subst⁻¹}
+use mathlib.Core.Bool.{Bool, true, false}
+use mathlib.Core.List.{List, [], _∷_, _++_, append-nil}
+use Prim.Native.Nat.{ℕ, zero, suc, _+_, _-_, _*_, _<_, _≤_}
 use native.Mathlib.Omega.{arith}
-use lib.ListN.{length}
+use lib.ListN.{length, getD, set, length-set}
 use borrow.Author.Needs.{needs}
 use borrow.Fn.Kinds.{In}
 use borrow.Fn.PlainCycle.{Measures, is, falls, and}
@@ -13,12 +14,13 @@ use Rattle.answer.proofs.put.Reads as put-reads
 use Rattle.formula.specs.Nodes.{nodesOf}
 use Rattle.formula.proofs.Laws.Tables.{length-nodesOf}
 use Rattle.clausal.specs.Literals.{Clause}
-use Rattle.convert.specs.Steps.{LeadsTo, Lower, wayClause}
-use Rattle.convert.specs.Written.{Due}
+use Rattle.convert.specs.Steps.{LeadsTo, Lower, Open}
+use Rattle.convert.specs.Written.{Due, Wrote}
 use Rattle.convert.specs.declared.step.Step.{Step}
-use Rattle.convert.specs.declared.step.Step.the-variants.{Literal, One, Two}
+use Rattle.convert.specs.declared.step.Step.the-variants.{Nothing, Literal, One, Two}
 use Rattle.convert.specs.declared.step.Way.{Way}
-use Rattle.convert.proofs.Laws.Wrote.{symbol-right, step-leads, due-lower, wrote-nothing, wrote-literal, wrote-same, room-left, room-right, wrote-two}
+use Rattle.convert.proofs.Laws.Waiting.{noWay, stackOf, weight, weigh, weight-some, weight-lower, stack-pop, stack-push, Job, clause, restOf, Waits, Going, going-starts, going-ends, going-length, going-room, going-on}
+use Rattle.convert.proofs.Laws.Wrote.{symbol-right, step-leads, due-lower, wrote-nothing, wrote-literal, wrote-same, room-left}
 use Rattle.convert.proofs.clause.write.Reads as write
 use Rattle.convert.proofs.clause.write.Kinds as write-kinds
 use Rattle.convert.proofs.clause.+write.Lts-write as lts
@@ -39,153 +41,340 @@ below t = and 5 write-kinds.ps (falls 5 write-kinds.ps _<_ μ-write t) write.Pre
 abbrev calls : ℕ → lts.Claims
 calls t = (lead-reads.Asked, lead-reads.Learnt, put-reads.Asked, put-reads.Learnt, below t, write.Post)
 
--- the function's entry, from the place behind the step
-abbrev Led : ℕ → Type 0
-Led t = lts.After-lead (calls t) (at t) write.Post
+abbrev jobOf : List ℕ → ℕ → List ℕ → Bool → Way → List ℕ → ℕ → Job
+jobOf table options set own way before at = record { options = options; set = set; nodes = nodesOf table; own = own; way = way; before = before; at = at }
+
+-- the array starts with the clause that is asked for
+abbrev Inv-loop : lts.InvT-loop
+Inv-loop table options set helpers p-clauses p-literals n-clauses n-literals own out₀ at later₀ waiting₀ first₀ next₀ out later waiting first next =
+    (waiting ≤ 16) × (length later ≡ 16) × Going (jobOf table options set own (getD later₀ 0 noWay) out₀ at) first (stackOf later waiting) next out
+
+abbrev μ-loop : lts.MeasureT-loop
+μ-loop table options set helpers p-clauses p-literals n-clauses n-literals own out₀ at later₀ waiting₀ first₀ next₀ out later waiting first next =
+    weigh (stackOf later waiting)
 
 abbrev Start : ℕ → Type 0
-Start t = lts.Start (calls t) (at t) write.Post
+Start t = lts.Start (calls t) (at t) write.Post Inv-loop μ-loop
 
--- the step leads to the clause
-module _ (t : ℕ) (c : Led t) where
+abbrev Turn : ℕ → Type 0
+Turn t = lts.At-loop (calls t) (at t) write.Post Inv-loop μ-loop
+
+-- the place behind the step
+abbrev Led : ℕ → Type 0
+Led t = lts.After-lead (calls t) (at t) write.Post Inv-loop μ-loop
+
+-- what is to be written
+abbrev job : (t : ℕ) → Start t → Job
+job t s = jobOf (s .args .table .now) (s .args .options) (s .args .set .now) (s .args .own) (s .args .way) (s .args .out .now) (s .args .at)
+
+-- at the head of the loop: the front one, and those behind it
+module _ (t : ℕ) (l : Turn t) where
   abbrev st : Start t
   st =
-      let back = c .before .before .before .before in
+      let back = l .before .before .before .before in
       let further = back .before .before .before .before in
       further .before
 
-  abbrev Leads : Step → Type 0
-  Leads = LeadsTo (st .args .options) (st .args .set .now) (nodesOf (st .args .table .now)) (st .args .way .node)
-      (wayClause (st .args .options) (st .args .set .now) (nodesOf (st .args .table .now)) (st .args .own) (st .args .way))
+  abbrev to-do : Job
+  to-do = job t st
 
-  -- a child's clause
-  abbrev child : Way → Clause
-  child = wayClause (st .args .options) (st .args .set .now) (nodesOf (st .args .table .now)) false
+  abbrev here : Way
+  here = getD (l .loop .later) (l .loop .waiting - 1) noWay
+
+  abbrev under : List Way
+  under = stackOf (l .loop .later) (l .loop .waiting - 1)
+
+  kept : length (l .loop .out) ≡ length (st .args .out .now)
+  kept = going-length to-do (st .pre .1 .1 .room) (l .loop .first) (stackOf (l .loop .later) (l .loop .waiting)) (l .loop .next) (l .loop .out) (l .loop .inv .2)
+
+  goes-same : (ws us : List Way) (to : ℕ) (after : List ℕ) → ws ≡ us → Going to-do false us to after → Going to-do false ws to after
+  goes-same ws us to after e g = subst⁻¹ (λ (x : List Way). Going to-do false x to after) e g
+
+  module _ (some : 0 < l .loop .waiting) where
+    stack : stackOf (l .loop .later) (l .loop .waiting) ≡ here ∷ under
+    stack = stack-pop (l .loop .later) (l .loop .waiting) some
+
+    going : Going to-do (l .loop .first) (here ∷ under) (l .loop .next) (l .loop .out)
+    going = subst (λ (ws : List Way). Going to-do (l .loop .first) ws (l .loop .next) (l .loop .out)) stack (l .loop .inv .2)
+
+    due : Due (st .args .table .now) (st .args .options) (st .args .set .now) (l .loop .first) here (l .loop .out) (l .loop .next)
+    due = record {
+      inside = omega (arith, st .pre .1 .1 .inside, going .waits .0);
+      there = going .waits .1;
+      room = going-room to-do (st .pre .1 .1 .room) (l .loop .first) here under (l .loop .next) (l .loop .out) going;
+    }
+
+    -- a part of the front one is written, and others take its place
+    goes-on : (c : Clause) (d : List Way) → clause to-do (l .loop .first) here ≡ c ++ restOf to-do false d → Waits to-do false d
+        → (to : ℕ) (after : List ℕ) → Wrote c (l .loop .out) (l .loop .next) to after → Going to-do false (d ++ under) to after
+    goes-on = going-on to-do (st .pre .1 .1 .room) (l .loop .first) here under (l .loop .next) (l .loop .out) going
+
+    -- a child's clause waits
+    waits : (x : Way) → Lower (to-do .options) (to-do .set) (to-do .nodes) (here .node) x
+        → (x .node ≤ st .args .way .node) × Open (to-do .options) (to-do .set) (to-do .nodes) false x
+    waits x w = (omega (arith, w .before, going .waits .0), w .there)
+
+-- the step leads to the clause
+module _ (t : ℕ) (c : Led t) where
+  abbrev turn : Turn t
+  turn = c .before .before .before
+
+  some : 0 < turn .loop .waiting
+  some = omega (arith, c .before .before .loop-test .taken)
+
+  abbrev Leads : Step → Type 0
+  Leads = let j = to-do t turn in LeadsTo (j .options) (j .set) (j .nodes) (here t turn .node) (clause j (turn .loop .first) (here t turn))
 
   led : Leads (c .lead .result)
   led =
-      let a = st .args in
+      let a = st t turn .args in
       step-leads (a .table .now) (a .options) (a .set .now) (a .helpers .now) (a .p-clauses .now) (a .p-literals .now) (a .n-clauses .now) (a .n-literals .now)
-      (st .pre .1 .0) (a .own) (a .way) (a .out .now) (a .at) (c .lead .result) (st .pre .1 .1) (c .lead .ensures)
-
-  -- a child's clause may be written, and its number is lower
-  lower : (x : Way) (out : List ℕ) (from : ℕ) → Lower (st .args .options) (st .args .set .now) (nodesOf (st .args .table .now)) (st .args .way .node) x
-      → from + 4 * length (child x) ≤ length out
-      → Due (st .args .table .now) (st .args .options) (st .args .set .now) false x out from
-  lower x out from l r =
-      let a = st .args in
-      due-lower (a .table .now) (a .options) (a .set .now) (a .helpers .now) (a .p-clauses .now) (a .p-literals .now) (a .n-clauses .now) (a .n-literals .now)
-      (st .pre .1 .0) (a .way .node) x out from (st .pre .1 .1 .inside) l r
-
-asked : (t : ℕ) → lts.Need-lead-requires (calls t) (at t) write.Post
-asked t c κs =
-    let back = c .before .before .before .before in
-    let s = back .before .before .before .before in
-    let a = s .args in
-    let ok = s .pre .1 .0 in (
-      omega (arith, s .pre .1 .1 .inside, length-nodesOf (a .table .now), ok .right .most),
-      symbol-right (a .table .now) (a .options) (a .set .now) (a .helpers .now) (a .p-clauses .now) (a .p-literals .now) (a .n-clauses .now) (a .n-literals .now) ok (a .way .node) (s .pre .1 .1 .inside),
-    )
-
-nothing-left : (t : ℕ) → lts.Need-returns (calls t) (at t) write.Post
-nothing-left t c =
-    let lead = c .before .before in
-    wrote-nothing _ _ _ (subst (Leads t lead) (c .enum-told .given .1) (led t lead))
+      (st t turn .pre .1 .0) (turn .loop .first) (here t turn) (turn .loop .out) (turn .loop .next) (c .lead .result) (due t turn some) (c .lead .ensures)
 
 -- a literal: the clause has one
-literal-says : (t : ℕ) (c : lts.After-step (calls t) (at t) write.Post) → Leads t (c .before .before) (Literal (c .step .given .0 .0))
+literal-says : (t : ℕ) (c : lts.After-step (calls t) (at t) write.Post Inv-loop μ-loop) → Leads t (c .before .before) (Literal (c .step .given .0 .0))
 literal-says t c = subst (Leads t (c .before .before)) (c .step .given .1) (led t (c .before .before))
 
-literal-room : (t : ℕ) → lts.Need-put-requires (calls t) (at t) write.Post
-literal-room t c κs =
-    let step = c .before .before in
-    omega (arith, st t (step .before .before) .pre .1 .1 .room, ap length (literal-says t step .is))
-
-literal-fits : (t : ℕ) → lts.Need-add-result (calls t) (at t) write.Post
-literal-fits t c =
-    let back = c .before .before .before .before in
-    let step = back .before in
-    let s = st t (step .before .before) in
-    record { fits = omega (arith, s .pre .1 .1 .room, ap length (literal-says t step .is), s .good .1 .1 .1 .1 .1 .1 .1 .1 .1 .1 .0 .0) }
-
-literal-left : (t : ℕ) → lts.Need-returns-2 (calls t) (at t) write.Post
-literal-left t c =
-    let put = c .before .before in
-    let step = put .before .before .before in
-    let a = st t (step .before .before) .args in
-    wrote-literal (a .options) (a .set .now) (nodesOf (a .table .now)) _ _ (a .out .now) _ (a .at) (literal-says t step) (put .put .ensures)
-
 -- one child's clause
-one-says : (t : ℕ) (c : lts.After-step2 (calls t) (at t) write.Post) → Leads t (c .before .before) (One (c .step2 .given .0 .0))
+one-says : (t : ℕ) (c : lts.After-step2 (calls t) (at t) write.Post Inv-loop μ-loop) → Leads t (c .before .before) (One (c .step2 .given .0 .0))
 one-says t c = subst (Leads t (c .before .before)) (c .step2 .given .1) (led t (c .before .before))
 
-one-due : (t : ℕ) → lts.Need-write-requires (calls t) (at t) write.Post
-one-due t c κs =
-    let step = c .before .before in
-    let lead = step .before .before in
-    let s = st t lead in
-    let told = one-says t step in
-    (omega (arith, told .0 .before, s .pre .0), (s .pre .1 .0, lower t lead _ _ _ (told .0) (omega (arith, s .pre .1 .1 .room, ap length (told .1)))))
-
-one-left : (t : ℕ) → lts.Need-returns-3 (calls t) (at t) write.Post
-one-left t c =
-    let call = c .before .before in
-    let step = call .before .before .before in
-    wrote-same _ _ _ _ _ _ (one-says t step .1) (call .write .ensures)
-
 -- a clause of each of two children
-two-says : (t : ℕ) (c : lts.After-step3 (calls t) (at t) write.Post) → Leads t (c .before .before) (Two (c .step3 .given .0 .0) (c .step3 .given .0 .1 .0))
+two-says : (t : ℕ) (c : lts.After-step3 (calls t) (at t) write.Post Inv-loop μ-loop) → Leads t (c .before .before) (Two (c .step3 .given .0 .0) (c .step3 .given .0 .1 .0))
 two-says t c = subst (Leads t (c .before .before)) (c .step3 .given .1) (led t (c .before .before))
 
-abbrev left : (t : ℕ) → lts.After-step3 (calls t) (at t) write.Post → Clause
-left t c = child t (c .before .before) (c .step3 .given .0 .0)
+-- the right one waits
+right-waits : (t : ℕ) (c : lts.After-step3 (calls t) (at t) write.Post Inv-loop μ-loop)
+    → stackOf (set (turn t (c .before .before) .loop .later) (turn t (c .before .before) .loop .waiting - 1) (c .step3 .given .0 .1 .0)) (turn t (c .before .before) .loop .waiting - 1 + 1)
+    ≡ c .step3 .given .0 .1 .0 ∷ under t (turn t (c .before .before))
+right-waits t c =
+    let n = c .before .before in
+    let l = turn t n in
+    stack-push (l .loop .later) (l .loop .waiting - 1) (c .step3 .given .0 .1 .0) (omega (arith, l .loop .inv .0, l .loop .inv .1, some t n))
 
-abbrev right : (t : ℕ) → lts.After-step3 (calls t) (at t) write.Post → Clause
-right t c = child t (c .before .before) (c .step3 .given .0 .1 .0)
+-- the left one waits before it
+left-waits : (t : ℕ) (c : lts.After-step3 (calls t) (at t) write.Post Inv-loop μ-loop) → turn t (c .before .before) .loop .waiting - 1 + 1 < 16
+    → stackOf (set (set (turn t (c .before .before) .loop .later) (turn t (c .before .before) .loop .waiting - 1) (c .step3 .given .0 .1 .0)) (turn t (c .before .before) .loop .waiting - 1 + 1) (c .step3 .given .0 .0))
+    (turn t (c .before .before) .loop .waiting - 1 + 1 + 1)
+    ≡ c .step3 .given .0 .0 ∷ c .step3 .given .0 .1 .0 ∷ under t (turn t (c .before .before))
+left-waits t c h =
+    let l = turn t (c .before .before) in
+    let p = l .loop .waiting - 1 in
+    let right = c .step3 .given .0 .1 .0 in
+    stack-push (set (l .loop .later) p right) (p + 1) (c .step3 .given .0 .0) (omega (arith, l .loop .inv .1, length-set (l .loop .later) p right))
+    ∙ ap (λ (ws : List Way). c .step3 .given .0 .0 ∷ ws) (right-waits t c)
 
-left-due : (t : ℕ) → lts.Need-write-requires-2 (calls t) (at t) write.Post
-left-due t c κs =
-    let step = c .before .before in
-    let lead = step .before .before in
-    let s = st t lead in
-    let told = two-says t step in
-    (omega (arith, told .0 .before, s .pre .0), (s .pre .1 .0, lower t lead _ _ _ (told .0) (room-left _ (left t step) (right t step) (s .args .out .now) (s .args .at) (told .2) (s .pre .1 .1 .room))))
+loop-holds : (t : ℕ) → lts.Need-loop-holds (calls t) (at t) write.Post Inv-loop μ-loop
+unfolding stackOf
+loop-holds t c =
+    let back = c .before .before .before .before in
+    let s = back .before .before .before .before in
+    (omega arith, refl, going-starts (job t s) (s .pre .1 .1 .there))
 
-right-due : (t : ℕ) → lts.Need-write-requires-3 (calls t) (at t) write.Post
-right-due t c κs =
-    let first = c .before .before .before in
-    let step = first .before .before .before in
-    let lead = step .before .before in
-    let s = st t lead in
-    let told = two-says t step in (
-      omega (arith, told .1 .before, s .pre .0),
-      (s .pre .1 .0, lower t lead _ _ _ (told .1) (room-right _ (left t step) (right t step) (s .args .out .now) (s .args .at) (told .2) (s .pre .1 .1 .room) _ _ (first .write2 .ensures))),
+lead-requires : (t : ℕ) → lts.Need-lead-requires (calls t) (at t) write.Post Inv-loop μ-loop
+lead-requires t c κs =
+    let l = c .before .before in
+    let s = st t l in
+    let a = s .args in
+    let d = due t l (omega (arith, c .before .loop-test .taken)) in (
+      omega (arith, d .inside, length-nodesOf (a .table .now), s .pre .1 .0 .right .most),
+      symbol-right (a .table .now) (a .options) (a .set .now) (a .helpers .now) (a .p-clauses .now) (a .p-literals .now) (a .n-clauses .now) (a .n-literals .now) (s .pre .1 .0) (here t l .node) (d .inside),
     )
 
-two-left : (t : ℕ) → lts.Need-returns-4 (calls t) (at t) write.Post
-two-left t c =
-    let second = c .before .before in
-    let first = second .before .before .before .before in
-    let step = first .before .before .before in
-    let s = st t (step .before .before) in
-    wrote-two _ (left t step) (right t step) (s .args .out .now) (s .args .at) (two-says t step .2) (s .pre .1 .1 .room) _ _ _ _ (first .write2 .ensures) (second .write3 .ensures)
+loop-less : (t : ℕ) → lts.Need-loop-less (calls t) (at t) write.Post Inv-loop μ-loop
+loop-less t c =
+    let n = c .before .before in
+    let l = turn t n in
+    omega (arith, ap weigh (stack t l (some t n)), weight-some (here t l .node))
+
+loop-again : (t : ℕ) → lts.Need-loop-again (calls t) (at t) write.Post Inv-loop μ-loop
+loop-again t c =
+    let n = c .before .before in
+    let l = turn t n in
+    (omega (arith, l .loop .inv .0), l .loop .inv .1, goes-on t l (some t n) [] [] (subst (Leads t n) (c .enum-told .given .1) (led t n)) tt (l .loop .next) (l .loop .out) (wrote-nothing [] _ _ refl))
+
+put-requires : (t : ℕ) → lts.Need-put-requires (calls t) (at t) write.Post Inv-loop μ-loop
+put-requires t c κs =
+    let step = c .before .before in
+    let n = step .before .before in
+    omega (arith, due t (turn t n) (some t n) .room, ap length (literal-says t step .is))
+
+add-next : (t : ℕ) → lts.Need-add-next (calls t) (at t) write.Post Inv-loop μ-loop
+add-next t c =
+    let back = c .before .before .before .before in
+    let step = back .before in
+    let n = step .before .before in
+    record { fits = omega (arith, due t (turn t n) (some t n) .room, ap length (literal-says t step .is), kept t (turn t n), st t (turn t n) .good .1 .1 .1 .1 .1 .1 .1 .1 .1 .1 .0 .0) }
+
+loop-less-2 : (t : ℕ) → lts.Need-loop-less-2 (calls t) (at t) write.Post Inv-loop μ-loop
+loop-less-2 t c =
+    let back = c .before .before .before .before in
+    let n = back .before .before .before in
+    let l = turn t n in
+    omega (arith, ap weigh (stack t l (some t n)), weight-some (here t l .node))
+
+loop-again-2 : (t : ℕ) → lts.Need-loop-again-2 (calls t) (at t) write.Post Inv-loop μ-loop
+loop-again-2 t c =
+    let put = c .before .before in
+    let step = put .before .before .before in
+    let n = step .before .before in
+    let l = turn t n in
+    let a = st t l .args in
+    let told = literal-says t step in (
+      omega (arith, l .loop .inv .0),
+      l .loop .inv .1,
+      goes-on t l (some t n) (clause (to-do t l) (l .loop .first) (here t l)) [] (sym (append-nil _)) tt (l .loop .next + 4) _
+          (wrote-literal (a .options) (a .set .now) (nodesOf (a .table .now)) _ _ (l .loop .out) _ (l .loop .next) told (put .put .ensures)),
+    )
+
+loop-less-3 : (t : ℕ) → lts.Need-loop-less-3 (calls t) (at t) write.Post Inv-loop μ-loop
+loop-less-3 t c =
+    let step = c .before in
+    let n = step .before .before in
+    let l = turn t n in
+    let child = step .step2 .given .0 .0 in
+    let pushed = stack-push (l .loop .later) (l .loop .waiting - 1) child (omega (arith, l .loop .inv .0, l .loop .inv .1, some t n)) in
+    omega (arith, ap weigh (stack t l (some t n)), ap weigh pushed, weight-some (child .node), weight-lower (child .node) (here t l .node) (one-says t step .0 .before))
+
+loop-again-3 : (t : ℕ) → lts.Need-loop-again-3 (calls t) (at t) write.Post Inv-loop μ-loop
+loop-again-3 t c =
+    let step = c .before in
+    let n = step .before .before in
+    let l = turn t n in
+    let child = step .step2 .given .0 .0 in
+    let told = one-says t step in
+    let pushed = stack-push (l .loop .later) (l .loop .waiting - 1) child (omega (arith, l .loop .inv .0, l .loop .inv .1, some t n)) in (
+      omega (arith, l .loop .inv .0, some t n),
+      length-set (l .loop .later) (l .loop .waiting - 1) child ∙ l .loop .inv .1,
+      goes-same t l _ _ _ _ pushed
+          (goes-on t l (some t n) [] (child ∷ []) (told .1 ∙ sym (append-nil _)) (waits t l (some t n) child (told .0) .0, waits t l (some t n) child (told .0) .1, tt)
+          (l .loop .next) (l .loop .out) (wrote-nothing [] _ _ refl)),
+    )
+
+loop-less-4 : (t : ℕ) → lts.Need-loop-less-4 (calls t) (at t) write.Post Inv-loop μ-loop
+loop-less-4 t c =
+    let step = c .before .before in
+    let n = step .before .before in
+    let l = turn t n in
+    let told = two-says t step in
+    let left = step .step3 .given .0 .0 in
+    let right = step .step3 .given .0 .1 .0 in
+    omega (
+      arith,
+      ap weigh (stack t l (some t n)),
+      ap weigh (left-waits t step (c .if1 .taken)),
+      weight-some (left .node),
+      weight-some (right .node),
+      weight-lower (left .node) (here t l .node) (told .0 .before),
+      weight-lower (right .node) (here t l .node) (told .1 .before),
+    )
+
+loop-again-4 : (t : ℕ) → lts.Need-loop-again-4 (calls t) (at t) write.Post Inv-loop μ-loop
+loop-again-4 t c =
+    let step = c .before .before in
+    let n = step .before .before in
+    let l = turn t n in
+    let p = l .loop .waiting - 1 in
+    let told = two-says t step in
+    let left = step .step3 .given .0 .0 in
+    let right = step .step3 .given .0 .1 .0 in
+    let a = waits t l (some t n) left (told .0) in
+    let b = waits t l (some t n) right (told .1) in (
+      omega (arith, c .if1 .taken),
+      length-set (set (l .loop .later) p right) (p + 1) left ∙ length-set (l .loop .later) p right ∙ l .loop .inv .1,
+      goes-same t l _ _ _ _ (left-waits t step (c .if1 .taken))
+          (goes-on t l (some t n) [] (left ∷ right ∷ []) (told .2 ∙ ap (λ (r : Clause). clause (to-do t l) false left ++ r) (sym (append-nil _))) (a .0, a .1, (b .0, b .1, tt))
+          (l .loop .next) (l .loop .out) (wrote-nothing [] _ _ refl)),
+    )
+
+write-requires : (t : ℕ) → lts.Need-write-requires (calls t) (at t) write.Post Inv-loop μ-loop
+write-requires t c κs =
+    let step = c .before .before .before in
+    let n = step .before .before in
+    let l = turn t n in
+    let s = st t l in
+    let a = s .args in
+    let told = two-says t step in
+    let d = due t l (some t n) in
+    let left = step .step3 .given .0 .0 in (
+      omega (arith, waits t l (some t n) left (told .0) .0, told .0 .before, going t l (some t n) .waits .0, s .pre .0),
+      (
+        s .pre .1 .0,
+        due-lower (a .table .now) (a .options) (a .set .now) (a .helpers .now) (a .p-clauses .now) (a .p-literals .now) (a .n-clauses .now) (a .n-literals .now)
+            (s .pre .1 .0) (here t l .node) left (l .loop .out) (l .loop .next) (d .inside) (told .0)
+            (room-left _ (clause (to-do t l) false left) (clause (to-do t l) false (step .step3 .given .0 .1 .0)) (l .loop .out) (l .loop .next) (told .2) (d .room)),
+      ),
+    )
+
+loop-less-5 : (t : ℕ) → lts.Need-loop-less-5 (calls t) (at t) write.Post Inv-loop μ-loop
+loop-less-5 t c =
+    let back = c .before .before .before .before in
+    let step = back .before .before in
+    let n = step .before .before in
+    let l = turn t n in
+    let told = two-says t step in
+    let right = step .step3 .given .0 .1 .0 in
+    omega (arith, ap weigh (stack t l (some t n)), ap weigh (right-waits t step), weight-some (right .node), weight-lower (right .node) (here t l .node) (told .1 .before))
+
+loop-again-5 : (t : ℕ) → lts.Need-loop-again-5 (calls t) (at t) write.Post Inv-loop μ-loop
+loop-again-5 t c =
+    let call = c .before .before in
+    let step = call .before .before .before .before in
+    let n = step .before .before in
+    let l = turn t n in
+    let p = l .loop .waiting - 1 in
+    let told = two-says t step in
+    let left = step .step3 .given .0 .0 in
+    let right = step .step3 .given .0 .1 .0 in
+    let b = waits t l (some t n) right (told .1) in (
+      omega (arith, l .loop .inv .0, some t n),
+      length-set (l .loop .later) p right ∙ l .loop .inv .1,
+      goes-same t l _ _ _ _ (right-waits t step)
+          (goes-on t l (some t n) (clause (to-do t l) false left) (right ∷ []) (told .2 ∙ ap (λ (r : Clause). clause (to-do t l) false left ++ r) (sym (append-nil _))) (b .0, b .1, tt)
+          _ _ (call .write .ensures)),
+    )
+
+same-length : (t : ℕ) → lts.Need-same-length (calls t) (at t) write.Post Inv-loop μ-loop
+same-length t c = kept t (c .before)
+
+returns : (t : ℕ) → lts.Need-returns (calls t) (at t) write.Post Inv-loop μ-loop
+returns t c =
+    let l = c .before in
+    going-ends (to-do t l) (l .loop .first) (l .loop .later) (l .loop .waiting) (l .loop .next) (l .loop .out) (omega (arith, c .loop-test .left)) (l .loop .inv .2)
 
 pub +write-spec : {M : Type 1} → statement M
-+write-spec = close μ-write λ t. lts.spec (calls t) (at t) write.Post
-    (asked t)
++write-spec = close μ-write λ t. lts.spec (calls t) (at t) write.Post Inv-loop μ-loop
+    (λ c. search needs)
+    (loop-holds t)
     (λ c. search needs)
     (λ c. search needs)
-    (literal-room t)
-    (literal-fits t)
     (λ c. search needs)
-    (one-due t)
+    (lead-requires t)
     (λ c. search needs)
-    (left-due t)
-    (right-due t)
-    (nothing-left t)
+    (loop-less t)
+    (loop-again t)
     (λ c. search needs)
-    (literal-left t)
+    (put-requires t)
+    (add-next t)
+    (loop-less-2 t)
+    (loop-again-2 t)
     (λ c. search needs)
-    (one-left t)
     (λ c. search needs)
-    (two-left t)
+    (λ c. search needs)
+    (λ c. search needs)
+    (loop-less-3 t)
+    (loop-again-3 t)
+    (λ c. search needs)
+    (λ c. search needs)
+    (λ c. search needs)
+    (λ c. search needs)
+    (λ c. search needs)
+    (λ c. search needs)
+    (λ c. search needs)
+    (loop-less-4 t)
+    (loop-again-4 t)
+    (write-requires t)
+    (loop-less-5 t)
+    (loop-again-5 t)
+    (same-length t)
+    (returns t)
