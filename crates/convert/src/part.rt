@@ -214,7 +214,8 @@ pub fn write_all<'a>(
     ensures { λ r. ⌜ Stored (clausesBytes (outputOf options (now (set .entry)) (nodesOf (now (table .entry))))) (now (out .entry)) 0 r (now (out .exit)) ⌝ }
 {
     let count = table.len() / NODE_BYTES;
-    let mut at = write_part(
+    let mut at = 0;
+    at = write_part(
         true,
         table,
         options,
@@ -229,7 +230,7 @@ pub fn write_all<'a>(
         0,
         0,
         out,
-        0,
+        at,
     );
     let mut i = 0;
     while i < count {
