@@ -7,6 +7,8 @@ use denote.Ref.{now}
 use denote.Triple.Clauses.{AtExit}
 use borrow.Fn.Kinds.{Dens, endedOf, resT}
 use Rattle.answer.specs.Part.{Wrote}
+use Rattle.dimacs.proofs.text_length.Kinds as text-length-kinds
+use Rattle.dimacs.proofs.text_length.Reads as text-length
 use Rattle.dimacs.proofs.write.Kinds as write-kinds
 use Rattle.dimacs.proofs.write.Reads as write
 use Rattle.dimacs.proofs.read.Kinds as read-kinds
@@ -69,12 +71,18 @@ use Rattle.dimacs.proofs.word.width.Kinds as word-width-kinds
 use Rattle.dimacs.proofs.word.width.Reads as word-width
 use Rattle.dimacs.proofs.word.literal_size.Kinds as word-literal-size-kinds
 use Rattle.dimacs.proofs.word.literal_size.Reads as word-literal-size
+use Rattle.dimacs.proofs.writer.put_number.Kinds as writer-put-number-kinds
+use Rattle.dimacs.proofs.writer.put_number.Reads as writer-put-number
 use Rattle.dimacs.proofs.writer.put_text.Kinds as writer-put-text-kinds
 use Rattle.dimacs.proofs.writer.put_text.Reads as writer-put-text
 use Rattle.dimacs.proofs.reader.is_accepted.Kinds as reader-is-accepted-kinds
 use Rattle.dimacs.proofs.reader.is_accepted.Reads as reader-is-accepted
 use Rattle.dimacs.proofs.reader.walk.Kinds as reader-walk-kinds
 use Rattle.dimacs.proofs.reader.walk.Reads as reader-walk
+
+pub text-length-settled : (κs : Lfts 1) (a : Dens κs text-length-kinds.ps) (r q : resT text-length-kinds.r κs .Denot)
+    (s t : AtExit (endedOf 1 text-length-kinds.ps text-length-kinds.r) κs) → text-length.Post κs a r s → text-length.Post κs a q t → r ≡ q
+text-length-settled κs a r q s t e f = e ∙ sym f
 
 pub write-settled : (κs : Lfts 2) (a : Dens κs write-kinds.ps) (r q : resT write-kinds.r κs .Denot)
     (s t : AtExit (endedOf 2 write-kinds.ps write-kinds.r) κs) → write.Post κs a r s → write.Post κs a q t → (r ≡ q) × (now (s .1 .1 .0) ≡ now (t .1 .1 .0))
@@ -208,6 +216,11 @@ pub word-literal-size-settled : (κs : Lfts 0) (a : Dens κs word-literal-size-k
     (s t : AtExit (endedOf 0 word-literal-size-kinds.ps word-literal-size-kinds.r) κs) → word-literal-size.Post κs a r s
     → word-literal-size.Post κs a q t → r ≡ q
 word-literal-size-settled κs a r q s t e f = e .0 ∙ sym (f .0)
+
+pub writer-put-number-settled : (κs : Lfts 1) (a : Dens κs writer-put-number-kinds.ps) (r q : resT writer-put-number-kinds.r κs .Denot)
+    (s t : AtExit (endedOf 1 writer-put-number-kinds.ps writer-put-number-kinds.r) κs) → writer-put-number.Post κs a r s
+    → writer-put-number.Post κs a q t → (r ≡ q) × (now (s .0) ≡ now (t .0))
+writer-put-number-settled κs a r q s t e f = (e .place ∙ sym (f .place), e .list ∙ sym (f .list))
 
 pub writer-put-text-settled : (κs : Lfts 2) (a : Dens κs writer-put-text-kinds.ps) (r q : resT writer-put-text-kinds.r κs .Denot)
     (s t : AtExit (endedOf 2 writer-put-text-kinds.ps writer-put-text-kinds.r) κs) → writer-put-text.Post κs a r s → writer-put-text.Post κs a q t

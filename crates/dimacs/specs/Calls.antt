@@ -25,6 +25,10 @@ writeCall bytes v buffer =
     (record { answer = ClauseBytes; output = buffer })
     (accepted v (length (clausesOf bytes)) (writtenText v (clausesOf bytes)) buffer)
 
+-- the length of a written text
+abbrev pub textLength : List ℕ → ℕ → ℕ
+textLength bytes v = cond (wrongBytes bytes v) 0 (length (writtenText v (clausesOf bytes)))
+
 -- a text, and the buffer for its clause bytes
 abbrev pub readCall : List ℕ → List ℕ → Wrote
 readCall text buffer =

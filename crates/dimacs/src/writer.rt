@@ -21,7 +21,7 @@ fn put_byte(text: &mut [u8], at: usize, byte: u8) -> usize
 }
 
 // Writes a number in decimal, and returns the next place.
-fn put_number(text: &mut [u8], at: usize, number: u32) -> usize
+pub fn put_number(text: &mut [u8], at: usize, number: u32) -> usize
     requires { ⌜ at + length (decimal number) ≤ length (now text) ⌝ }
     ensures { λ r. ⌜ Wrote (now (text .entry)) at (decimal number) (now (text .exit)) r ⌝ }
 {

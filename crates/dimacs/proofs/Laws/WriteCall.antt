@@ -13,7 +13,7 @@ use Rattle.answer.specs.declared.Answer.the-variants.{Accepted, Room, ClauseByt
 use Rattle.dimacs.specs.Words.{wordsOf, zerosIn, wrongBytes, clausesOf}
 use Rattle.dimacs.specs.Written.{headerLine, linesOf, wordsText, writtenText}
 use Rattle.dimacs.specs.Checks.{checkedOf}
-use Rattle.dimacs.specs.Calls.{accepted, writeCall}
+use Rattle.dimacs.specs.Calls.{accepted, textLength, writeCall}
 use Rattle.dimacs.specs.declared.check.Checked.the-variants.{Wrong, Sized}
 use Rattle.dimacs.proofs.Laws.Stand.{stand, lines-stand, count-stand, text-short}
 use Rattle.dimacs.proofs.Laws.Words.{RightBytes, right-of-not-wrong, length-words}
@@ -38,6 +38,13 @@ found-refused bytes v buffer e = go (wrongBytes bytes v) refl e
   where
     go : (b : Bool) → wrongBytes bytes v ≡ b → cond b Wrong (Sized (zerosIn (wordsOf bytes)) (length (wordsText (wordsOf bytes)))) ≡ Wrong
         → record { answer = ClauseBytes; output = buffer } ≡ writeCall bytes v buffer
+    go true f h = rw f
+    go false f h = let z : _≡_ {A = ℕ} 0 1 = cc in absurd (omega arith)
+
+pub length-wrong : (bytes : List ℕ) (v : ℕ) → checkedOf bytes v ≡ Wrong → 0 ≡ textLength bytes v
+length-wrong bytes v e = go (wrongBytes bytes v) refl e
+  where
+    go : (b : Bool) → wrongBytes bytes v ≡ b → cond b Wrong (Sized (zerosIn (wordsOf bytes)) (length (wordsText (wordsOf bytes)))) ≡ Wrong → 0 ≡ textLength bytes v
     go true f h = rw f
     go false f h = let z : _≡_ {A = ℕ} 0 1 = cc in absurd (omega arith)
 
@@ -80,6 +87,9 @@ module _ {bytes : List ℕ} {v n m : ℕ} (f : Found bytes v n m) where
 
   pub length-written : length (writtenText v (clausesOf bytes)) ≡ m + (length (decimal v) + length (decimal n) + 8)
   length-written = ap length (f .text) ∙ length-append (headerLine v n) (wordsText (wordsOf bytes)) ∙ omega (arith, f .lines, length-header v n)
+
+  pub length-found : m + (length (decimal v) + length (decimal n) + 8) ≡ textLength bytes v
+  length-found = rw (f .not-wrong) (sym length-written)
 
   pub found-no-room : (buffer : List ℕ) → length buffer < m + (length (decimal v) + length (decimal n) + 8)
       → record { answer = Room; output = buffer } ≡ writeCall bytes v buffer
