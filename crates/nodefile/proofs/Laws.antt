@@ -1,0 +1,2 @@
+-- Laws of the node file, by subject.
+pub mod Pieces

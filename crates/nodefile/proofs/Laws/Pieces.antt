@@ -1,0 +1,2 @@
+-- The pieces of a text: the first of them, and those behind it.
+-- Assumes nothing.

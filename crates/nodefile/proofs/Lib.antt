@@ -1,0 +1,3 @@
+-- Laws and theorems of the node file.
+pub mod Laws
+pub mod Cases
