@@ -1,0 +1,49 @@
+-- `nodefile::field::find` meets its contract: as long as the mark is not passed, it stands at the same place. Assumes nothing.
+use mathlib.Core.Path.{_≡_, refl, sym, ap, _∙_}
+use Prim.Native.Nat.{ℕ, _+_, _-_, _≤_}
+use native.Mathlib.Omega.{arith}
+use lib.ListN.{length, drop}
+use Rattle.nodefile.specs.Steps.{spot}
+use Rattle.nodefile.proofs.Laws.Pieces.{spot-here, spot-next, spot-end}
+use Rattle.nodefile.proofs.field.find.Statement.{statement}
+use Rattle.nodefile.proofs.field.find.Tie as tie
+
+abbrev Inv-loop : tie.InvT-loop
+Inv-loop text at mark i₀ i = (i ≤ length text) × (i + spot mark (drop i text) ≡ at + spot mark (drop at text))
+
+abbrev μ-loop : tie.MeasureT-loop
+μ-loop text at mark i₀ i = length text - i
+
+returns : tie.Need-returns Inv-loop μ-loop
+returns c =
+    let turn = c .before .before in
+    let l = turn .before .loop in
+    let x = turn .before .before .args in
+    omega (arith, l .inv .1, spot-here (x .mark) (x .text .now) (l .i) (turn .loop-test .taken) (c .if1 .taken))
+
+loop-again : tie.Need-loop-again Inv-loop μ-loop
+loop-again c =
+    let turn = c .before .before in
+    let l = turn .before .loop in
+    let x = turn .before .before .args in
+    (omega arith, omega (arith, l .inv .1, spot-next (x .mark) (x .text .now) (l .i) (turn .loop-test .taken) (c .if1 .left)))
+
+returns-2 : tie.Need-returns-2 Inv-loop μ-loop
+returns-2 c =
+    let l = c .before .loop in
+    let x = c .before .before .args in
+    omega (arith, l .inv .1, spot-end (x .mark) (x .text .now) (l .i) (c .loop-test .left))
+
+pub find-spec : {M : Type 1} → statement M
+find-spec =
+    tie.close
+    (tie.spec
+    Inv-loop
+    μ-loop
+    (λ c. (omega arith, refl))
+    (λ c. omega arith)
+    returns
+    (λ c. omega arith)
+    (λ c. omega arith)
+    loop-again
+    returns-2)
