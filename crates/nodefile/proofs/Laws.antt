@@ -2,4 +2,8 @@
 pub mod Pieces
 pub mod Words
 pub mod Numbers
+pub mod Fields
+pub mod Options
+pub mod Nodes
+pub mod Lines
 pub mod Stored

@@ -3,7 +3,7 @@
 use mathlib.Core.Bool.{Bool, true, false, cond, _&&_}
 use mathlib.Core.List.{List, [], _∷_}
 use mathlib.Core.Path.{_≡_}
-use Prim.Native.Nat.{ℕ, suc, _≤_}
+use Prim.Native.Nat.{ℕ, suc, _+_, _≤_}
 use lib.Dec.{eqb, leb, ltb}
 use lib.ListN.{length, drop}
 use Rattle.formula.specs.Limits.{mostNodes}
@@ -26,6 +26,12 @@ use Rattle.nodefile.specs.declared.line.NodeAt.the-variants as node
 unfoldable pub spot : ℕ → List ℕ → ℕ
 spot mark [] = 0
 spot mark (b ∷ t) = cond (eqb b mark) 0 (suc (spot mark t))
+
+-- the first mark from a place on, or the end of the text
+pub record MarkAt (mark : ℕ) (text : List ℕ) (at end : ℕ) : Type 0 where
+  pub place : end ≡ at + spot mark (drop at text)
+  pub behind : at ≤ end
+  pub within : end ≤ length text
 
 -- the pieces from a place on; none past the end
 abbrev pub piecesAt : ℕ → List ℕ → ℕ → List (List ℕ)

@@ -1,11 +1,11 @@
 // The fields of a line: where one ends, and the number that it is.
 ghost use mathlib.Core.Path.{_≡_};
-ghost use Prim.Native.Nat.{_+_, _≤_};
-ghost use lib.ListN.{length, drop};
+ghost use Prim.Native.Nat.{_≤_};
+ghost use lib.ListN.{length};
 ghost use Rattle.nodefile.specs.Limits.{mostNumber};
 ghost use Rattle.nodefile.specs.Lines.{same};
 ghost use Rattle.nodefile.specs.Numbers.{noLeadingZero, numberOf};
-ghost use Rattle.nodefile.specs.Steps.{spot, FieldFound};
+ghost use Rattle.nodefile.specs.Steps.{MarkAt, FieldFound};
 
 pub const TAB: u8 = 9;
 
@@ -25,7 +25,7 @@ pub enum Field {
 // The place of the first mark from `at` on, or the end of the text.
 pub fn find(text: &[u8], at: usize, mark: u8) -> usize
     requires { ⌜ at ≤ length (now text) ⌝ }
-    ensures { λ r. ⌜ r ≡ at + spot mark (drop at (now (text .entry))) ⌝ }
+    ensures { λ r. ⌜ MarkAt mark (now (text .entry)) at r ⌝ }
 {
     let mut i = at;
     while i < text.len() {

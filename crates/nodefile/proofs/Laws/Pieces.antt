@@ -11,7 +11,7 @@ use lib.ListN.{length, getD, take, drop, length-drop, drop-of-length-le}
 use lib.Seq.{drop-cons, drop-drop}
 use borrow.Author.Tests.{leb-true, leb-false, le-leb, lt-leb, eq-eqb, ne-eqb}
 use Rattle.nodefile.specs.Pieces.{ahead, parted}
-use Rattle.nodefile.specs.Steps.{spot, piecesAt}
+use Rattle.nodefile.specs.Steps.{spot, piecesAt, MarkAt}
 
 -- two tests of order that say the same
 leb-same : (a b c d : ℕ) → (a ≤ b → c ≤ d) → (c ≤ d → a ≤ b) → leb a b ≡ leb c d
@@ -37,15 +37,6 @@ module _ (mark : ℕ) where
   unfolding spot
   spot-end t i h = rw (drop-of-length-le t h)
 
-  spot-within : (t : List ℕ) → spot mark t ≤ length t
-  unfolding spot
-  spot-within [] = omega arith
-  spot-within (b ∷ t) = go (eqb b mark) (spot-within t)
-    where
-      go : (c : Bool) → spot mark t ≤ length t → cond c 0 (suc (spot mark t)) ≤ suc (length t)
-      go true h = omega arith
-      go false h = omega arith
-
   parted-first : (t : List ℕ) → parted mark t ≡ take (spot mark t) t ∷ piecesAt mark t (suc (spot mark t))
   unfolding parted spot
   parted-first [] = refl
@@ -58,21 +49,31 @@ module _ (mark : ℕ) where
           rw (e, leb-same (suc (suc (spot mark t))) (suc (length t)) (suc (spot mark t)) (length t) (λ h. omega arith) (λ h. omega arith))
 
   -- a cursor at a place, and the next mark from there on, or the end
-  module _ (t : List ℕ) (at end : ℕ) (h : at ≤ length t) (e : end ≡ at + spot mark (drop at t)) where
-    pub mark-within : end ≤ length t
-    mark-within = omega (arith, spot-within (drop at t), length-drop at t)
-
-    pub pieces-next : parted mark (drop at t) ≡ take (end - at) (drop at t) ∷ piecesAt mark t (end + 1)
-    pieces-next =
-        let s : ℕ = spot mark (drop at t) in
-        let k : end - at ≡ s = omega arith in
-        let n : end + 1 ≡ at + suc s = omega arith in
-        let l : leb (suc s) (length (drop at t)) ≡ leb (at + suc s) (length t) =
-        leb-same (suc s) (length (drop at t)) (at + suc s) (length t) (λ g. omega (arith, length-drop at t)) (λ g. omega (arith, length-drop at t)) in
-        parted-first (drop at t) ∙ rw (k, n, l, drop-drop (suc s) at t)
+  pub parted-next : {t : List ℕ} {at end : ℕ} → MarkAt mark t at end → parted mark (drop at t) ≡ take (end - at) (drop at t) ∷ piecesAt mark t (end + 1)
+  parted-next {t} {at} {end} m =
+      let s : ℕ = spot mark (drop at t) in
+      let k : end - at ≡ s = omega (arith, m .place) in
+      let n : end + 1 ≡ at + suc s = omega (arith, m .place) in
+      let d = length-drop at t in
+      let l : leb (suc s) (length (drop at t)) ≡ leb (at + suc s) (length t) =
+      leb-same (suc s) (length (drop at t)) (at + suc s) (length t) (λ g. omega arith) (λ g. omega (arith, m .behind, m .within)) in
+      parted-first (drop at t) ∙ rw (k, n, l, drop-drop (suc s) at t)
 
   pub pieces-within : (t : List ℕ) (at : ℕ) → at ≤ length t → piecesAt mark t at ≡ parted mark (drop at t)
   pieces-within t at h = rw (le-leb at (length t) h)
 
   pub pieces-past : (t : List ℕ) (at : ℕ) → length t < at → piecesAt mark t at ≡ []
   pieces-past t at h = rw (lt-leb at (length t) h)
+
+  pub pieces-next : {t : List ℕ} {at end : ℕ} → MarkAt mark t at end → piecesAt mark t at ≡ take (end - at) (drop at t) ∷ piecesAt mark t (end + 1)
+  pieces-next {t} {at} m = pieces-within t at (omega (arith, m .behind, m .within)) ∙ parted-next m
+
+  -- there is a piece
+  pub parted-some : (t : List ℕ) → parted mark t ≡ getD (parted mark t) 0 [] ∷ drop 1 (parted mark t)
+  parted-some t = rw (parted-first t)
+
+  -- the first mark of all
+  pub parted-front : {t : List ℕ} {end : ℕ} → MarkAt mark t 0 end → parted mark t ≡ take end t ∷ piecesAt mark t (end + 1)
+  parted-front {t} {end} m =
+      let k : end - 0 ≡ end = omega arith in
+      parted-next m ∙ ap (λ (n : ℕ). take n t ∷ piecesAt mark t (end + 1)) k

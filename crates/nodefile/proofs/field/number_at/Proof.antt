@@ -1,67 +1,40 @@
+-- `nodefile::field::number_at` meets its contract: the field ends at the next tab, or with the line. Assumes nothing.
+use mathlib.Core.Path.{sym, _∙_}
+use native.Mathlib.Omega.{arith}
 use borrow.Author.Needs.{needs}
+use Rattle.nodefile.proofs.Laws.Fields.{field-missing, field-wrong, field-is}
 use Rattle.nodefile.proofs.field.number_at.Statement.{statement}
 use Rattle.nodefile.proofs.field.number_at.Tie as tie
-use Rattle.nodefile.proofs.field.number_at.Reads as reads
-use Rattle.nodefile.proofs.field.number_at.Lts as lts
-use Rattle.nodefile.proofs.field.find.Reads as find-reads
-use Rattle.nodefile.proofs.field.number_of.Reads as number-of-reads
 
--- src/field.rt:103:9
-returns : tie.Need-returns
-returns c = ?
-
--- src/field.rt:105:9
-find-requires : tie.Need-find-requires
-find-requires c κs = search needs
-
--- src/field.rt:106:21
-sub-number-of : tie.Need-sub-number-of
-sub-number-of c = search needs
-
--- src/field.rt:106:21
-part-number-of-start : tie.Need-part-number-of-start
-part-number-of-start c = search needs
-
--- src/field.rt:106:21
-part-number-of-end : tie.Need-part-number-of-end
-part-number-of-end c = ?
-
--- src/field.rt:106:11
-number-of-requires : tie.Need-number-of-requires
-number-of-requires c κs = search needs
-
--- src/field.rt:107:26
-enum-told : tie.Need-enum-told
-enum-told c = search needs
-
--- src/field.rt:108:20
-enum-known-value : tie.Need-enum-known-value
-enum-known-value c = search needs
-
--- src/field.rt:110:19
-add-t13 : tie.Need-add-t13
-add-t13 c = ?
-
--- src/field.rt:98:1
+-- no number
 returns-2 : tie.Need-returns-2
-returns-2 c = ?
+returns-2 c =
+    let read = c .before .before in
+    let mark = read .before .before in
+    let x = mark .before .before .before .args in
+    field-wrong (x .line .now) (x .at) (x .most) (mark .find .ensures) (sym (c .enum-told .given .1) ∙ read .number-of .ensures)
 
--- src/field.rt:98:1
+-- a number
 returns-3 : tie.Need-returns-3
-returns-3 c = ?
+returns-3 c =
+    let value = c .before in
+    let read = value .before .before in
+    let mark = read .before .before in
+    let x = mark .before .before .before .args in
+    field-is (x .line .now) (x .at) (x .most) (mark .find .ensures) _ (sym (value .value .given .1) ∙ read .number-of .ensures)
 
 pub number-at-spec : {M : Type 1} → statement M
 number-at-spec =
     tie.close
     (tie.spec
-    returns
-    find-requires
-    sub-number-of
-    part-number-of-start
-    part-number-of-end
-    number-of-requires
-    enum-told
-    enum-known-value
-    add-t13
+    (λ c. let x = c .before .before .args in field-missing (x .line .now) (x .at) (x .most) (c .if1 .taken))
+    (λ c κs. search needs)
+    (λ c. search needs)
+    (λ c. search needs)
+    (λ c. search needs)
+    (λ c κs. search needs)
+    (λ c. search needs)
+    (λ c. search needs)
+    (λ c. search needs)
     returns-2
     returns-3)

@@ -1,73 +1,69 @@
+-- `nodefile::line::options_of` meets its contract: the word, a number, and no field more. Assumes nothing.
+use mathlib.Core.Path.{sym, _∙_, subst}
+use native.Mathlib.Omega.{arith}
 use borrow.Author.Needs.{needs}
+use borrow.Author.Tests.{not-true, not-false}
+use lib.Seq.{length-take-le}
+use Rattle.nodefile.specs.Limits.{mostNumber}
+use Rattle.nodefile.specs.Steps.{FieldFound}
+use Rattle.nodefile.proofs.Laws.Options.{options-word, options-number, options-more, options-right}
 use Rattle.nodefile.proofs.line.options_of.Statement.{statement}
 use Rattle.nodefile.proofs.line.options_of.Tie as tie
-use Rattle.nodefile.proofs.line.options_of.Reads as reads
-use Rattle.nodefile.proofs.line.options_of.Lts as lts
-use Rattle.nodefile.proofs.field.find.Reads as find-reads
-use Rattle.nodefile.proofs.field.is_same.Reads as is-same-reads
-use Rattle.nodefile.proofs.field.number_at.Reads as number-at-reads
 
--- src/line.rt:50:9
-find-requires : tie.Need-find-requires
-find-requires c κs = search needs
+abbrev mark : tie.After-is-same → tie.After-find
+mark c = c .before .before .before
 
--- src/line.rt:51:17
-slice-aggregate-is-same : tie.Need-slice-aggregate-is-same
-slice-aggregate-is-same c = ?
-
--- src/line.rt:51:31
-slice-aggregate-is-same-2 : tie.Need-slice-aggregate-is-same-2
-slice-aggregate-is-same-2 c = search needs
-
--- src/line.rt:51:9
-is-same-requires : tie.Need-is-same-requires
-is-same-requires c κs = search needs
-
--- src/line.rt:52:9
+-- another word
 returns : tie.Need-returns
-returns c = ?
+returns c =
+    let m = mark (c .before) in
+    options-word (m .before .before .args .line .now) (m .find .result) (m .find .ensures) (sym (not-true _ (c .if1 .taken)) ∙ c .before .is-same .ensures)
 
--- src/line.rt:54:27
-add-number-at : tie.Need-add-number-at
-add-number-at c = ?
-
--- src/line.rt:54:11
-number-at-requires : tie.Need-number-at-requires
-number-at-requires c κs = search needs
-
--- src/line.rt:55:25
-enum-told : tie.Need-enum-told
-enum-told c = search needs
-
--- src/line.rt:56:21
-enum-known-value : tie.Need-enum-known-value
-enum-known-value c = search needs
-
--- src/line.rt:58:17
+-- a field more
 returns-2 : tie.Need-returns-2
-returns-2 c = ?
+returns-2 c =
+    let value = c .before .before in
+    let read = value .before .before in
+    let word = read .before in
+    let m = mark (word .before) in
+    let line = m .before .before .args .line .now in
+    options-more line (m .find .result) (m .find .ensures) (sym (not-false _ (word .if1 .left)) ∙ word .before .is-same .ensures)
+    (subst (FieldFound line _ mostNumber) (value .value .given .1) (read .number-at .ensures)) (c .if2 .taken)
 
--- src/line.rt:47:1
+-- no number
 returns-3 : tie.Need-returns-3
-returns-3 c = ?
+returns-3 c =
+    let read = c .before .before in
+    let word = read .before in
+    let m = mark (word .before) in
+    let line = m .before .before .args .line .now in
+    options-number line (m .find .result) (m .find .ensures) (sym (not-false _ (word .if1 .left)) ∙ word .before .is-same .ensures)
+    (subst (FieldFound line _ mostNumber) (c .enum-told .given .1) (read .number-at .ensures))
 
--- src/line.rt:47:1
+-- the option count
 returns-4 : tie.Need-returns-4
-returns-4 c = ?
+returns-4 c =
+    let value = c .before .before in
+    let read = value .before .before in
+    let word = read .before in
+    let m = mark (word .before) in
+    let line = m .before .before .args .line .now in
+    options-right line (m .find .result) (m .find .ensures) (sym (not-false _ (word .if1 .left)) ∙ word .before .is-same .ensures)
+    (subst (FieldFound line _ mostNumber) (value .value .given .1) (read .number-at .ensures)) (c .if2 .left)
 
 pub options-of-spec : {M : Type 1} → statement M
 options-of-spec =
     tie.close
     (tie.spec
-    find-requires
-    slice-aggregate-is-same
-    slice-aggregate-is-same-2
-    is-same-requires
+    (λ c κs. search needs)
+    (λ c. let m = c .before in sym (length-take-le (m .find .result) (m .before .before .args .line .now) (m .find .ensures .within)))
+    (λ c. search needs)
+    (λ c κs. search needs)
     returns
-    add-number-at
-    number-at-requires
-    enum-told
-    enum-known-value
+    (λ c. search needs)
+    (λ c κs. search needs)
+    (λ c. search needs)
+    (λ c. search needs)
     returns-2
     returns-3
     returns-4)
