@@ -1,4 +1,5 @@
 -- Laws of the node file, by subject.
+pub mod Choices
 pub mod Pieces
 pub mod Words
 pub mod Numbers

@@ -12,17 +12,15 @@ use Rattle.nodefile.specs.Lines.{areNumbers}
 use Rattle.nodefile.specs.Steps.{piecesAt, MarkAt, FieldIs}
 use Rattle.nodefile.specs.declared.field.Number.{Number}
 use Rattle.nodefile.specs.declared.field.Number.the-variants.{Is, Wrong}
+use Rattle.nodefile.proofs.Laws.Choices.{chose-first, chose-second}
 use Rattle.nodefile.proofs.Laws.Pieces.{pieces-next, pieces-within, pieces-past, parted-some}
 
--- what is chosen by a test tells the test
-module _ (x : ℕ) where
-  pub chosen-wrong : (b : Bool) → Wrong ≡ cond b (Is x) Wrong → b ≡ false
-  chosen-wrong true e = let z : _≡_ {A = ℕ} 0 1 = cc in absurd (omega arith)
-  chosen-wrong false e = refl
+-- which fields are numbers, and their values
+pub number-differs : (x : ℕ) → Is x ≡ Wrong → ⊥
+number-differs x e = let z : _≡_ {A = ℕ} 0 1 = cc in omega arith
 
-  pub chosen-is : (b : Bool) (v : ℕ) → Is v ≡ cond b (Is x) Wrong → (b ≡ true) × (v ≡ x)
-  chosen-is true v e = (refl, cc)
-  chosen-is false v e = let z : _≡_ {A = ℕ} 0 1 = cc in absurd (omega arith)
+pub number-same : (x y : ℕ) → Is x ≡ Is y → x ≡ y
+number-same x y e = cc
 
 module _ (line : List ℕ) (at most : ℕ) where
   pub field-missing : length line < at → (limits : List ℕ) → areNumbers (most ∷ limits) (piecesAt tab line at) ≡ false
@@ -35,12 +33,12 @@ module _ (line : List ℕ) (at most : ℕ) where
 
     pub field-wrong : Wrong ≡ numberOf most piece → (limits : List ℕ) → areNumbers (most ∷ limits) (piecesAt tab line at) ≡ false
     unfolding areNumbers
-    field-wrong e limits = rw (pieces-next tab m, chosen-wrong (valueOf piece) (isNumber most piece) e)
+    field-wrong e limits = rw (pieces-next tab m, chose-second (Is (valueOf piece)) Wrong (number-differs (valueOf piece)) (isNumber most piece) e)
 
     pub field-is : (v : ℕ) → Is v ≡ numberOf most piece → FieldIs line at most v (end + 1)
     field-is v e =
-        let c = chosen-is (valueOf piece) (isNumber most piece) v e in
-        record { piece = piece; pieces = pieces-next tab m; number = c .0; same = c .1 }
+        let c = chose-first (Is (valueOf piece)) Wrong (Is v) (number-differs v) (isNumber most piece) e in
+        record { piece = piece; pieces = pieces-next tab m; number = c .0; same = number-same v (valueOf piece) (c .1) }
 
 -- a number more in front, and no field more
 module _ (line : List ℕ) where

@@ -1,57 +1,47 @@
+-- `nodefile::line::options_at` meets its contract: the line ends at the first newline. Assumes nothing.
+use mathlib.Core.Path.{sym, _∙_}
+use native.Mathlib.Omega.{arith}
 use borrow.Author.Needs.{needs}
+use lib.Seq.{length-take-le}
+use Rattle.nodefile.specs.Lines.{optionLine}
+use Rattle.nodefile.proofs.Laws.Lines.{next-open, options-fail, options-are}
 use Rattle.nodefile.proofs.line.options_at.Statement.{statement}
 use Rattle.nodefile.proofs.line.options_at.Tie as tie
-use Rattle.nodefile.proofs.line.options_at.Reads as reads
-use Rattle.nodefile.proofs.line.options_at.Lts as lts
-use Rattle.nodefile.proofs.field.find.Reads as find-reads
-use Rattle.nodefile.proofs.line.options_of.Reads as options-of-reads
 
--- src/line.rt:114:9
-find-requires : tie.Need-find-requires
-find-requires c κs = search needs
-
--- src/line.rt:116:9
+-- no newline
 returns : tie.Need-returns
-returns c = ?
+returns c =
+    let mark = c .before in
+    next-open optionLine (mark .before .before .args .text .now) 0 (mark .find .result) (mark .find .ensures) (c .if1 .taken)
 
--- src/line.rt:118:22
-slice-aggregate-options-of : tie.Need-slice-aggregate-options-of
-slice-aggregate-options-of c = ?
-
--- src/line.rt:118:11
-options-of-requires : tie.Need-options-of-requires
-options-of-requires c κs = search needs
-
--- src/line.rt:119:26
-enum-told : tie.Need-enum-told
-enum-told c = search needs
-
--- src/line.rt:120:20
-enum-known-count : tie.Need-enum-known-count
-enum-known-count c = search needs
-
--- src/line.rt:122:19
-add-t10 : tie.Need-add-t10
-add-t10 c = ?
-
--- src/line.rt:111:1
+-- a wrong line
 returns-2 : tie.Need-returns-2
-returns-2 c = ?
+returns-2 c =
+    let read = c .before .before in
+    let ended = read .before .before in
+    let mark = ended .before in
+    options-fail (mark .before .before .args .text .now) (mark .find .result) (mark .find .ensures) (ended .if1 .left)
+    (sym (c .enum-told .given .1) ∙ read .options-of .ensures)
 
--- src/line.rt:111:1
 returns-3 : tie.Need-returns-3
-returns-3 c = ?
+returns-3 c =
+    let count = c .before in
+    let read = count .before .before in
+    let ended = read .before .before in
+    let mark = ended .before in
+    options-are (mark .before .before .args .text .now) (mark .find .result) (mark .find .ensures) (ended .if1 .left) _
+    (sym (count .count .given .1) ∙ read .options-of .ensures)
 
 pub options-at-spec : {M : Type 1} → statement M
 options-at-spec =
     tie.close
     (tie.spec
-    find-requires
+    (λ c κs. search needs)
     returns
-    slice-aggregate-options-of
-    options-of-requires
-    enum-told
-    enum-known-count
-    add-t10
+    (λ c. let m = c .before .before in sym (length-take-le (m .find .result) (m .before .before .args .text .now) (m .find .ensures .within)))
+    (λ c κs. search needs)
+    (λ c. search needs)
+    (λ c. search needs)
+    (λ c. search needs)
     returns-2
     returns-3)
