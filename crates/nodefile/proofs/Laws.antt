@@ -7,4 +7,5 @@ pub mod Fields
 pub mod Options
 pub mod Nodes
 pub mod Lines
+pub mod Files
 pub mod Stored

@@ -8,7 +8,7 @@ use native.Mathlib.Numerals.{add-one}
 use native.Mathlib.Omega.{arith}
 use lib.Dec.{eqb, leb}
 use lib.ListN.{length, getD, take, drop, length-drop, drop-of-length-le}
-use lib.Seq.{drop-cons, drop-drop}
+use lib.Seq.{drop-cons, drop-drop, take-all}
 use borrow.Author.Tests.{leb-true, leb-false, le-leb, lt-leb, eq-eqb, ne-eqb}
 use Rattle.nodefile.specs.Pieces.{ahead, parted}
 use Rattle.nodefile.specs.Steps.{spot, piecesAt, MarkAt}
@@ -71,6 +71,23 @@ module _ (mark : ℕ) where
   -- there is a piece
   pub parted-some : (t : List ℕ) → parted mark t ≡ getD (parted mark t) 0 [] ∷ drop 1 (parted mark t)
   parted-some t = rw (parted-first t)
+
+  -- a piece that is alone is the whole text
+  pub parted-alone : (t l : List ℕ) → parted mark t ≡ l ∷ [] → l ≡ t
+  parted-alone t l e = go (leb (suc (spot mark t)) (length t)) refl
+    where
+      f : take (spot mark t) t ∷ piecesAt mark t (suc (spot mark t)) ≡ l ∷ []
+      f = sym (parted-first t) ∙ e
+
+      go : (c : Bool) → leb (suc (spot mark t)) (length t) ≡ c → l ≡ t
+      go true g =
+          let none : piecesAt mark t (suc (spot mark t)) ≡ [] = cc f in
+          let q : parted mark (drop (suc (spot mark t)) t) ≡ [] = sym (pieces-within t (suc (spot mark t)) (leb-true (suc (spot mark t)) (length t) g)) ∙ none in
+          let z = ap length q in
+          absurd (omega (arith, z, ap length (parted-some (drop (suc (spot mark t)) t))))
+      go false g =
+          let q : l ≡ take (spot mark t) t = cc f in
+          q ∙ take-all (spot mark t) t (let h = leb-false (suc (spot mark t)) (length t) g in omega arith)
 
   -- the first mark of all
   pub parted-front : {t : List ℕ} {end : ℕ} → MarkAt mark t 0 end → parted mark t ≡ take end t ∷ piecesAt mark t (end + 1)
