@@ -8,4 +8,5 @@ pub mod Options
 pub mod Nodes
 pub mod Lines
 pub mod Files
+pub mod Answers
 pub mod Stored

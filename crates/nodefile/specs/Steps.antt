@@ -3,7 +3,7 @@
 use mathlib.Core.Bool.{Bool, true, false, cond, _&&_}
 use mathlib.Core.List.{List, [], _∷_}
 use mathlib.Core.Path.{_≡_}
-use Prim.Native.Nat.{ℕ, suc, _+_, _≤_}
+use Prim.Native.Nat.{ℕ, suc, _+_, _≤_, _<_}
 use lib.Dec.{eqb, leb, ltb}
 use lib.ListN.{length, drop}
 use Rattle.formula.specs.Limits.{mostNodes}
@@ -66,6 +66,7 @@ nodeOf i line = cond (nodeLine i line) (read.Is (fieldValue line 1) (fieldValue 
 pub record LineIs (test : List ℕ → Bool) (text : List ℕ) (at next : ℕ) (line : List ℕ) : Type 0 where
   pub pieces : parted newline (drop at text) ≡ line ∷ parted newline (drop next text)
   pub passes : test line ≡ true
+  pub beyond : at < next
   pub within : next ≤ length text
 
 -- the option line

@@ -18,7 +18,7 @@ use Rattle.laws.proofs.Splices.{length-splice}
 use Rattle.formula.specs.Limits.{nodeBytes, mostNodes}
 use Rattle.nodefile.specs.Limits.{newline}
 use Rattle.nodefile.specs.Pieces.{parted}
-use Rattle.nodefile.specs.Lines.{optionLine, optionCount, recordOf, record5}
+use Rattle.nodefile.specs.Lines.{optionLine, optionCount, nodeLine, recordOf, record5}
 use Rattle.nodefile.specs.Files.{lineCount, lineOf, lineRight, firstWrong, fileRight, fileNodes, recordsTo, fileTable}
 use Rattle.nodefile.specs.Steps.{piecesAt, nextPasses, LineIs, OptionsAre, nodeTest, NodeIs}
 use Rattle.nodefile.proofs.Laws.Pieces.{parted-some, parted-alone}
@@ -105,14 +105,38 @@ module _ (text : List ℕ) where
         go (l ∷ []) q r = refused-open l q more
         go (l ∷ k ∷ ps) q r = refused-wrong l (k ∷ ps) q (omega arith) (e ∙ ap test (line-here l (k ∷ ps) q) ∙ r)
 
+  -- behind the option line
+  pub options-standing : {v next : ℕ} → OptionsAre text v next → (v ≡ optionCount (lineOf text 0)) × Standing next 1
+  options-standing o =
+      (o .same ∙ ap optionCount (sym (passed-line standing-start (o .found))), standing-more standing-start (o .found) refl)
+
+  -- the test of the line of node k
+  pub node-tested : (k : ℕ) → lineRight text (k + 1) ≡ nodeTest k (lineOf text (k + 1))
+  node-tested k = rw (add-one k)
+
+  -- behind the line of node k
+  module _ {at k kind a b next : ℕ} (s : Standing at (k + 1)) (n : NodeIs text at k kind a b next) where
+    pub node-standing : Standing next (k + 1 + 1)
+    node-standing = standing-more s (n .found) (node-tested k)
+
+    pub node-record : recordOf (lineOf text (k + 1)) ≡ record5 kind a b
+    node-record = ap recordOf (passed-line s (n .found)) ∙ n .same
+
+    pub node-few : k < mostNodes
+    node-few = go (ltb k mostNodes) refl (n .found .passes)
+      where
+        go : (t : Bool) → ltb k mostNodes ≡ t → (t && nodeLine k (n .line)) ≡ true → k < mostNodes
+        go true e f = ltb-true k mostNodes e
+        go false e f = let z : _≡_ {A = ℕ} 0 1 = cc in absurd (omega arith)
+
   -- the end of the text, behind the option line and k node lines
-  pub right-end : {at k : ℕ} → Standing at (suc k) → length text ≤ at → (fileRight text ≡ true) × (fileNodes text ≡ k)
+  pub right-end : {at k : ℕ} → Standing at (k + 1) → length text ≤ at → (fileRight text ≡ true) × (fileNodes text ≡ k)
   unfolding parted
   right-end {at} {k} s h =
       let end : parted newline (drop at text) ≡ [] ∷ [] = rw (drop-of-length-le text h) in
-      let all : length (parted newline text) ≡ suc k + 1 = pieces-left s 0 (ap length end) in
-      let n : lineCount text ≡ suc k = omega arith in
-      let found = looking-end (lineRight text) (lineCount text) (suc k) (s .looking) (omega arith) in
+      let all : length (parted newline text) ≡ k + 1 + 1 = pieces-left s 0 (ap length end) in
+      let n : lineCount text ≡ k + 1 = omega arith in
+      let found = looking-end (lineRight text) (lineCount text) (k + 1) (s .looking) (omega arith) in
       let last : lineOf text (lineCount text) ≡ [] = ap (lineOf text) n ∙ line-here s [] [] end in
       let f : eqb (firstWrong text) (lineCount text) ≡ true = eq-eqb (firstWrong text) (lineCount text) (omega (arith, found)) in
       let g : eqb (length (lineOf text (lineCount text))) 0 ≡ true = eq-eqb (length (lineOf text (lineCount text))) 0 (ap length last) in
@@ -134,7 +158,7 @@ unfolding recordsTo
 collected-start text bytes h = record { size = h; front = refl }
 
 pub collected-more : {text bytes : List ℕ} {k : ℕ} → Collected text bytes k → k < mostNodes → (kind a b : ℕ) (after : List ℕ)
-    → recordOf (lineOf text (suc k)) ≡ record5 kind a b → after ≡ splice bytes (nodeBytes * k) (record5 kind a b) → Collected text after (k + 1)
+    → recordOf (lineOf text (k + 1)) ≡ record5 kind a b → after ≡ splice bytes (nodeBytes * k) (record5 kind a b) → Collected text after (k + 1)
 unfolding recordsTo
 collected-more {text} {bytes} {k} c h kind a b after e f =
     let at : ℕ = nodeBytes * k in
@@ -146,5 +170,5 @@ collected-more {text} {bytes} {k} c h kind a b after e f =
       front =
           ap (take (nodeBytes * (k + 1))) (f ∙ sym (append-assoc (take at bytes) r (drop (at + nodeBytes) bytes)))
           ∙ take-at (take at bytes ++ r) (drop (at + nodeBytes) bytes) (nodeBytes * (k + 1)) n
-          ∙ rw (c .front, add-one k, e);
+          ∙ rw (c .front, ← e, add-one k);
     }

@@ -34,7 +34,7 @@ module _ (test : List ℕ → Bool) (text : List ℕ) (at end : ℕ) (m : MarkAt
     next-fails e = rw (ended, parted-some newline (drop (end + 1) text)) e
 
     pub next-is : test (take (end - at) (drop at text)) ≡ true → LineIs test text at (end + 1) (take (end - at) (drop at text))
-    next-is e = record { pieces = ended; passes = e; within = omega (arith, m .within) }
+    next-is e = record { pieces = ended; passes = e; beyond = omega (arith, m .behind); within = omega (arith, m .within) }
 
 -- the option line
 module _ (text : List ℕ) (end : ℕ) (m : MarkAt newline text 0 end) (h : end ≡ length text → ⊥) where
