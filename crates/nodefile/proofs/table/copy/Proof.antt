@@ -28,7 +28,7 @@ loop-again c =
     let x = start .args in (
       omega arith,
       ap (λ (t : List ℕ). set t (l .i) (getD (x .bytes .now) (l .i) 0)) (l .inv .1)
-      ∙ copied-more (x .table .now) (x .bytes .now) (start .pre) (l .i) (c .before .loop-test .taken),
+          ∙ copied-more (x .table .now) (x .bytes .now) (start .pre) (l .i) (c .before .loop-test .taken),
     )
 
 returns : tie.Need-returns Inv-loop μ-loop
