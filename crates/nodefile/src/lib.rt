@@ -6,11 +6,14 @@ mod table;
 ghost use mathlib.Core.Path.{_≡_};
 ghost use Rattle.nodefile.specs.Files.{fileRead};
 use answer::Answer;
+use formula::node::MOST_NODES;
 use formula::node::NODE_BYTES;
 use line::NodeAt;
 use line::OptionsAt;
 
 const MOST_BYTES: usize = 65_536;
+
+const MOST_TABLE: usize = NODE_BYTES * MOST_NODES;
 
 // Reads a node file as the bytes of a table; reports the option count and the nodes.
 // The records are collected first: a wrong line behind them leaves the lent buffer as it was.
@@ -27,7 +30,7 @@ pub fn read(text: &[u8], table: &mut [u8]) -> Answer
     else {
         return Answer::Line { line: 1 };
     };
-    let mut bytes = [0u8; 5_120];
+    let mut bytes = [0u8; MOST_TABLE];
     let mut nodes: u32 = 0;
     let mut at = next;
     while at < text.len() {

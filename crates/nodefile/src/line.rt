@@ -9,14 +9,13 @@ use crate::field::TAB;
 use crate::field::find;
 use crate::field::is_same;
 use crate::field::number_at;
+use formula::node::MOST_NODES;
 
 const NEWLINE: u8 = 10;
 
 const MOST_KIND: u32 = 255;
 
 const MOST_NUMBER: u32 = 65_535;
-
-const MOST_NODES: u32 = 1_024;
 
 pub enum Node {
     // The line is no node line, or that of another node.
@@ -111,15 +110,15 @@ fn node_of(line: &[u8], node: u32) -> Node
 pub fn options_at(text: &[u8]) -> OptionsAt
     ensures { λ r. ⌜ OptionsFound (now (text .entry)) r ⌝ }
 {
-    let end = find(text, 0, NEWLINE);
-    if end == text.len() {
+    let newline = find(text, 0, NEWLINE);
+    if newline == text.len() {
         return OptionsAt::Wrong;
     }
-    match options_of(&text[..end]) {
+    match options_of(&text[..newline]) {
         Number::Wrong => OptionsAt::Wrong,
         Number::Is(count) => OptionsAt::Right {
             count,
-            next: end + 1,
+            next: newline + 1,
         },
     }
 }
@@ -129,7 +128,7 @@ pub fn node_at(text: &[u8], at: usize, node: u32) -> NodeAt
     requires { ⌜ at ≤ length (now text) ⌝ }
     ensures { λ r. ⌜ NodeFound (now (text .entry)) at node r ⌝ }
 {
-    if node >= MOST_NODES {
+    if node as usize >= MOST_NODES {
         return NodeAt::Wrong;
     }
     let end = find(text, at, NEWLINE);
