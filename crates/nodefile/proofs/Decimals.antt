@@ -1,9 +1,10 @@
--- "Numbers are decimal without leading zeros": a field is the number n exactly where it is the decimal of n, and n is up to the limit.
+-- "Numbers are decimal without leading zeros": a field is the number n exactly where it is the decimal of n,
+-- and n is up to the limit.
 -- Assumes nothing.
 use mathlib.Core.Path.{_≡_, refl, sym, ap, _∙_, subst}
-use mathlib.Core.Bool.{Bool, true, false, not, _&&_}
+use mathlib.Core.Bool.{Bool, true, false, _&&_}
 use mathlib.Core.List.{List, [], _∷_, _++_, append-assoc, append-nil}
-use Prim.Native.Nat.{ℕ, zero, suc, _+_, _*_, _-_, _≤_, _<_}
+use Prim.Native.Nat.{ℕ, _+_, _*_, _-_, _≤_, _<_}
 use native.Mathlib.Omega.{arith}
 use lib.Dec.{eqb, leb}
 use lib.ListN.{length}
@@ -58,11 +59,9 @@ whole (b ∷ []) n e = begins b (digit b (both (isDigit b) true e .0))
 whole (b ∷ c ∷ t) n e =
     let p = both (isDigit b) (allDigits (c ∷ t)) e in
     let d = digit b (p .0) in
-    let z : (b ≡ 48 → ⊥) = eqb-false b 48 (not-true (eqb b 48) n) in
-    goes-on (0 * 10 + (b - 48)) (c ∷ t) (let v = d .value in go z v) (p .1) ∙ ap (λ (l : List ℕ). l ++ (c ∷ t)) (begins b d)
-  where
-    go : (b ≡ 48 → ⊥) → 48 + (b - 48) ≡ b → 0 < 0 * 10 + (b - 48)
-    go z v = omega arith
+    let z = eqb-false b 48 (not-true (eqb b 48) n) in
+    goes-on (0 * 10 + (b - 48)) (c ∷ t) (omega (arith, d .value, z)) (p .1)
+    ∙ ap (λ (l : List ℕ). l ++ (c ∷ t)) (begins b d)
 
 -- a decimal, taken in digit by digit: r is to come behind x, and the whole is n
 record After (n x : ℕ) (r : List ℕ) : Type 0 where

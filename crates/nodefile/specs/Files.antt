@@ -34,7 +34,10 @@ firstWrong text = first (lineRight text) (lineCount text)
 
 -- every line is right, the option line is not missing, and no line is left without its newline
 abbrev pub fileRight : List ℕ → Bool
-fileRight text = ltb 0 (lineCount text) && (eqb (firstWrong text) (lineCount text) && eqb (length (lineOf text (lineCount text))) 0)
+fileRight text =
+    ltb 0 (lineCount text)
+    && (eqb (firstWrong text) (lineCount text)
+    && eqb (length (lineOf text (lineCount text))) 0)
 
 -- the nodes of a right file
 abbrev pub fileNodes : List ℕ → ℕ

@@ -1,4 +1,4 @@
--- "First `options` and V; then, for each node, its number, kind, a, b": which lines are right, and what a node line says.
+-- "First `options` and V; then, for each node, its number, kind, a, b": which lines are right, and what they say.
 -- Assumes nothing: these are definitions.
 use mathlib.Core.Bool.{Bool, true, false, _&&_}
 use mathlib.Core.List.{List, [], _∷_, _++_}
@@ -53,8 +53,8 @@ abbrev pub nodeLine : ℕ → List ℕ → Bool
 nodeLine i line = areNumbers nodeLimits (fieldsOf line) && eqb (fieldValue line 0) i
 
 -- the record of a node: "kind, then a, then b, each 16-bit little-endian"
-abbrev pub record5 : ℕ → ℕ → ℕ → List ℕ
-record5 kind a b = kind ∷ (little fieldBytes a ++ little fieldBytes b)
+abbrev pub nodeRecord : ℕ → ℕ → ℕ → List ℕ
+nodeRecord kind a b = kind ∷ (little fieldBytes a ++ little fieldBytes b)
 
 abbrev pub recordOf : List ℕ → List ℕ
-recordOf line = record5 (fieldValue line 1) (fieldValue line 2) (fieldValue line 3)
+recordOf line = nodeRecord (fieldValue line 1) (fieldValue line 2) (fieldValue line 3)

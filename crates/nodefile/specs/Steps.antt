@@ -7,20 +7,20 @@ use Prim.Native.Nat.{ℕ, suc, _+_, _≤_, _<_}
 use lib.Dec.{eqb, leb, ltb}
 use lib.ListN.{length, drop}
 use Rattle.formula.specs.Limits.{mostNodes}
-use Rattle.nodefile.specs.Limits.{mostNumber, tab, newline}
+use Rattle.nodefile.specs.Limits.{tab, newline}
 use Rattle.nodefile.specs.Pieces.{parted}
 use Rattle.nodefile.specs.Numbers.{isNumber, valueOf}
-use Rattle.nodefile.specs.Lines.{areNumbers, optionLine, optionCount, fieldValue, nodeLine, record5, recordOf}
+use Rattle.nodefile.specs.Lines.{areNumbers, optionLine, optionCount, fieldValue, nodeLine, nodeRecord, recordOf}
 use Rattle.nodefile.specs.declared.field.Field.{Field}
 use Rattle.nodefile.specs.declared.field.Field.the-variants as field
 use Rattle.nodefile.specs.declared.field.Number.{Number}
 use Rattle.nodefile.specs.declared.field.Number.the-variants as number
 use Rattle.nodefile.specs.declared.line.Node.{Node}
-use Rattle.nodefile.specs.declared.line.Node.the-variants as read
+use Rattle.nodefile.specs.declared.line.Node.the-variants as node
 use Rattle.nodefile.specs.declared.line.OptionsAt.{OptionsAt}
 use Rattle.nodefile.specs.declared.line.OptionsAt.the-variants as options
 use Rattle.nodefile.specs.declared.line.NodeAt.{NodeAt}
-use Rattle.nodefile.specs.declared.line.NodeAt.the-variants as node
+use Rattle.nodefile.specs.declared.line.NodeAt.the-variants as found
 
 -- where the first mark stands, or the length where there is none
 unfoldable pub spot : ℕ → List ℕ → ℕ
@@ -60,7 +60,7 @@ abbrev pub optionsOf : List ℕ → Number
 optionsOf line = cond (optionLine line) (number.Is (optionCount line)) number.Wrong
 
 abbrev pub nodeOf : ℕ → List ℕ → Node
-nodeOf i line = cond (nodeLine i line) (read.Is (fieldValue line 1) (fieldValue line 2) (fieldValue line 3)) read.Wrong
+nodeOf i line = cond (nodeLine i line) (node.Is (fieldValue line 1) (fieldValue line 2) (fieldValue line 3)) node.Wrong
 
 -- the line from a place on is ended and passes a test, and the lines behind it stand from `next` on
 pub record LineIs (test : List ℕ → Bool) (text : List ℕ) (at next : ℕ) (line : List ℕ) : Type 0 where
@@ -86,8 +86,8 @@ nodeTest i line = ltb i mostNodes && nodeLine i line
 pub record NodeIs (text : List ℕ) (at i kind a b next : ℕ) : Type 0 where
   pub line : List ℕ
   pub found : LineIs (nodeTest i) text at next line
-  pub same : recordOf line ≡ record5 kind a b
+  pub same : recordOf line ≡ nodeRecord kind a b
 
 abbrev pub NodeFound : List ℕ → ℕ → ℕ → NodeAt → Type 0
-NodeFound text at i node.Wrong = nextPasses (nodeTest i) (parted newline (drop at text)) ≡ false
-NodeFound text at i (node.Right kind a b next) = NodeIs text at i kind a b next
+NodeFound text at i found.Wrong = nextPasses (nodeTest i) (parted newline (drop at text)) ≡ false
+NodeFound text at i (found.Right kind a b next) = NodeIs text at i kind a b next

@@ -4,12 +4,12 @@ ghost use Prim.Native.Nat.{_+_, _≤_, _<_};
 ghost use lib.ListN.{length};
 ghost use Rattle.laws.specs.Splices.{splice};
 ghost use Rattle.formula.specs.Limits.{nodeBytes};
-ghost use Rattle.nodefile.specs.Lines.{record5};
+ghost use Rattle.nodefile.specs.Lines.{nodeRecord};
 
 // Stores the record of a node: its kind, and a and b with the lowest byte first.
 pub fn put_node(bytes: &mut [u8], at: usize, kind: u8, a: u32, b: u32)
     requires { ⌜ at + nodeBytes ≤ length (now bytes) ⌝ }
-    ensures { λ _. ⌜ now (bytes .exit) ≡ splice (now (bytes .entry)) at (record5 kind a b) ⌝ }
+    ensures { λ _. ⌜ now (bytes .exit) ≡ splice (now (bytes .entry)) at (nodeRecord kind a b) ⌝ }
 {
     let high_a = a / 256;
     let high_b = b / 256;

@@ -1,7 +1,7 @@
 -- The fields of a line, read from its front.
 -- Assumes nothing.
-use mathlib.Core.Path.{_≡_, refl, sym, ap, _∙_}
-use mathlib.Core.Bool.{Bool, true, false, cond}
+use mathlib.Core.Path.{_≡_}
+use mathlib.Core.Bool.{true, false}
 use mathlib.Core.List.{List, [], _∷_}
 use Prim.Native.Nat.{ℕ, _+_, _-_, _≤_, _<_}
 use native.Mathlib.Omega.{arith}
@@ -10,7 +10,6 @@ use Rattle.nodefile.specs.Limits.{tab}
 use Rattle.nodefile.specs.Numbers.{isNumber, valueOf, numberOf}
 use Rattle.nodefile.specs.Lines.{areNumbers}
 use Rattle.nodefile.specs.Steps.{piecesAt, MarkAt, FieldIs}
-use Rattle.nodefile.specs.declared.field.Number.{Number}
 use Rattle.nodefile.specs.declared.field.Number.the-variants.{Is, Wrong}
 use Rattle.nodefile.proofs.Laws.Choices.{chose-first, chose-second}
 use Rattle.nodefile.proofs.Laws.Pieces.{pieces-next, pieces-within, pieces-past, parted-some}
@@ -31,9 +30,12 @@ module _ (line : List ℕ) (at most : ℕ) where
     abbrev pub piece : List ℕ
     piece = take (end - at) (drop at line)
 
-    pub field-wrong : Wrong ≡ numberOf most piece → (limits : List ℕ) → areNumbers (most ∷ limits) (piecesAt tab line at) ≡ false
+    pub field-wrong : Wrong ≡ numberOf most piece → (limits : List ℕ)
+        → areNumbers (most ∷ limits) (piecesAt tab line at) ≡ false
     unfolding areNumbers
-    field-wrong e limits = rw (pieces-next tab m, chose-second (Is (valueOf piece)) Wrong (number-differs (valueOf piece)) (isNumber most piece) e)
+    field-wrong e limits =
+        let v = valueOf piece in
+        rw (pieces-next tab m, chose-second (Is v) Wrong (number-differs v) (isNumber most piece) e)
 
     pub field-is : (v : ℕ) → Is v ≡ numberOf most piece → FieldIs line at most v (end + 1)
     field-is v e =

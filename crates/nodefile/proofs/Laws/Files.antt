@@ -1,26 +1,25 @@
 -- A file, line by line: what a reader knows who stands behind some right lines, and the records that it has collected.
 -- Assumes nothing.
-use mathlib.Core.Path.{_≡_, refl, sym, ap, _∙_, subst}
+use mathlib.Core.Path.{_≡_, refl, sym, ap, _∙_}
 use mathlib.Core.Bool.{Bool, true, false, _&&_, and-false}
 use mathlib.Core.List.{List, [], _∷_, _++_, append-assoc}
-use Prim.Native.Nat.{ℕ, zero, suc, _+_, _*_, _-_, _≤_, _<_}
+use Prim.Native.Nat.{ℕ, zero, suc, _+_, _*_, _≤_, _<_}
 use native.Mathlib.Nat.{add-zero}
 use native.Mathlib.Numerals.{add-one}
 use native.Mathlib.Omega.{arith}
-use lib.Dec.{eqb, ltb, leb}
+use lib.Dec.{eqb, ltb}
 use lib.ListN.{length, getD, take, drop, length-drop, length-append, drop-of-length-le}
-use lib.Seq.{drop-drop, getD-drop, take-at, take-all, length-take-le}
+use lib.Seq.{drop-drop, getD-drop, take-at, length-take-le}
 use borrow.Author.Tests.{ltb-true, ltb-false, lt-ltb, le-ltb, eq-eqb, ne-eqb}
-use Rattle.laws.specs.First.{first}
 use Rattle.laws.specs.Splices.{splice}
 use Rattle.laws.proofs.First.{Looking, looking-start, looking-more, looking-here, looking-end}
 use Rattle.laws.proofs.Splices.{length-splice}
 use Rattle.formula.specs.Limits.{nodeBytes, mostNodes}
 use Rattle.nodefile.specs.Limits.{newline}
 use Rattle.nodefile.specs.Pieces.{parted}
-use Rattle.nodefile.specs.Lines.{optionLine, optionCount, nodeLine, recordOf, record5}
-use Rattle.nodefile.specs.Files.{lineCount, lineOf, lineRight, firstWrong, fileRight, fileNodes, recordsTo, fileTable}
-use Rattle.nodefile.specs.Steps.{piecesAt, nextPasses, LineIs, OptionsAre, nodeTest, NodeIs}
+use Rattle.nodefile.specs.Lines.{optionCount, nodeLine, recordOf, nodeRecord}
+use Rattle.nodefile.specs.Files.{lineCount, lineOf, lineRight, firstWrong, fileRight, fileNodes, recordsTo}
+use Rattle.nodefile.specs.Steps.{nextPasses, LineIs, OptionsAre, nodeTest, NodeIs}
 use Rattle.nodefile.proofs.Laws.Pieces.{parted-some, parted-alone}
 
 -- the lowest wrong or missing line is line i
@@ -53,17 +52,15 @@ module _ (text : List ℕ) where
       pub passed-line : lineOf text i ≡ line
       passed-line = line-here line (parted newline (drop next text)) (f .pieces)
 
-      rest : parted newline (drop next text) ≡ getD (parted newline (drop next text)) 0 [] ∷ drop 1 (parted newline (drop next text))
-      rest = parted-some newline (drop next text)
-
       pub standing-more : lineRight text i ≡ test (lineOf text i) → Standing next (i + 1)
       standing-more e =
-          let two : length (parted newline (drop at text)) ≡ suc (suc (length (drop 1 (parted newline (drop next text))))) =
-          ap length (f .pieces) ∙ ap suc (ap length rest) in
-          let all = pieces-left (suc (length (drop 1 (parted newline (drop next text))))) two in
+          let rest = parted newline (drop next text) in
+          let some = ap length (parted-some newline (drop next text)) in
+          let all = pieces-left (length rest) (ap length (f .pieces)) in
           record {
             behind = sym (drop-drop 1 i (parted newline text)) ∙ ap (drop 1) (s .behind ∙ f .pieces);
-            looking = looking-more (lineRight text) (lineCount text) i (s .looking) (omega (arith, all)) (e ∙ ap test passed-line ∙ f .passes);
+            looking =
+                looking-more (lineRight text) (lineCount text) i (s .looking) (omega (arith, all, some)) (e ∙ ap test passed-line ∙ f .passes);
           }
 
     -- what stands here is not ended: the option line, or some bytes
@@ -83,21 +80,25 @@ module _ (text : List ℕ) where
         go false g = rw (le-ltb 0 (lineCount text) (omega (arith, count, ltb-false 0 i g)))
         go true g =
             let h = more (ltb-true 0 i g) in
-            let k = ne-eqb (length (lineOf text (lineCount text))) 0 (λ z. omega (arith, z, ap length bytes, length-drop at text)) in
+            let k = ne-eqb (length (lineOf text (lineCount text))) 0
+            (λ z. omega (arith, z, ap length bytes, length-drop at text)) in
             rw (k, and-false (eqb (firstWrong text) (lineCount text)), and-false (ltb 0 (lineCount text)))
 
     -- a line that is ended and wrong
-    refused-wrong : (l : List ℕ) (ps : List (List ℕ)) → parted newline (drop at text) ≡ l ∷ ps → 0 < length ps → lineRight text i ≡ false → Refused text i
+    refused-wrong : (l : List ℕ) (ps : List (List ℕ)) → parted newline (drop at text) ≡ l ∷ ps → 0 < length ps
+        → lineRight text i ≡ false → Refused text i
     refused-wrong l ps q h e =
         let all = pieces-left (length ps) (ap length q) in
         let here = looking-here (lineRight text) (lineCount text) i (s .looking) (omega (arith, all)) e in
         record {
           line = sym here;
-          wrong = rw (ne-eqb (firstWrong text) (lineCount text) (λ z. omega (arith, z, here, all)), and-false (ltb 0 (lineCount text)));
+          wrong =
+              let k = ne-eqb (firstWrong text) (lineCount text) (λ z. omega (arith, z, here, all)) in
+              rw (k, and-false (ltb 0 (lineCount text)));
         }
 
-    pub refused-here : (test : List ℕ → Bool) → lineRight text i ≡ test (lineOf text i) → nextPasses test (parted newline (drop at text)) ≡ false
-        → (0 < i → at < length text) → Refused text i
+    pub refused-here : (test : List ℕ → Bool) → lineRight text i ≡ test (lineOf text i)
+        → nextPasses test (parted newline (drop at text)) ≡ false → (0 < i → at < length text) → Refused text i
     refused-here test e p more = go (parted newline (drop at text)) refl p
       where
         go : (ps : List (List ℕ)) → parted newline (drop at text) ≡ ps → nextPasses test ps ≡ false → Refused text i
@@ -107,8 +108,10 @@ module _ (text : List ℕ) where
 
   -- behind the option line
   pub options-standing : {v next : ℕ} → OptionsAre text v next → (v ≡ optionCount (lineOf text 0)) × Standing next 1
-  options-standing o =
-      (o .same ∙ ap optionCount (sym (passed-line standing-start (o .found))), standing-more standing-start (o .found) refl)
+  options-standing o = (
+    o .same ∙ ap optionCount (sym (passed-line standing-start (o .found))),
+    standing-more standing-start (o .found) refl,
+  )
 
   -- the test of the line of node k
   pub node-tested : (k : ℕ) → lineRight text (k + 1) ≡ nodeTest k (lineOf text (k + 1))
@@ -119,7 +122,7 @@ module _ (text : List ℕ) where
     pub node-standing : Standing next (k + 1 + 1)
     node-standing = standing-more s (n .found) (node-tested k)
 
-    pub node-record : recordOf (lineOf text (k + 1)) ≡ record5 kind a b
+    pub node-record : recordOf (lineOf text (k + 1)) ≡ nodeRecord kind a b
     node-record = ap recordOf (passed-line s (n .found)) ∙ n .same
 
     pub node-few : k < mostNodes
@@ -138,8 +141,8 @@ module _ (text : List ℕ) where
       let n : lineCount text ≡ k + 1 = omega arith in
       let found = looking-end (lineRight text) (lineCount text) (k + 1) (s .looking) (omega arith) in
       let last : lineOf text (lineCount text) ≡ [] = ap (lineOf text) n ∙ line-here s [] [] end in
-      let f : eqb (firstWrong text) (lineCount text) ≡ true = eq-eqb (firstWrong text) (lineCount text) (omega (arith, found)) in
-      let g : eqb (length (lineOf text (lineCount text))) 0 ≡ true = eq-eqb (length (lineOf text (lineCount text))) 0 (ap length last) in
+      let f = eq-eqb (firstWrong text) (lineCount text) (omega (arith, found)) in
+      let g = eq-eqb (length (lineOf text (lineCount text))) 0 (ap length last) in
       (rw (lt-ltb 0 (lineCount text) (omega arith), f, g), omega arith)
 
 -- the records of the first k nodes stand in the front of an array
@@ -157,12 +160,13 @@ pub collected-start : (text bytes : List ℕ) → length bytes ≡ nodeBytes * m
 unfolding recordsTo
 collected-start text bytes h = record { size = h; front = refl }
 
-pub collected-more : {text bytes : List ℕ} {k : ℕ} → Collected text bytes k → k < mostNodes → (kind a b : ℕ) (after : List ℕ)
-    → recordOf (lineOf text (k + 1)) ≡ record5 kind a b → after ≡ splice bytes (nodeBytes * k) (record5 kind a b) → Collected text after (k + 1)
+pub collected-more : {text bytes : List ℕ} {k : ℕ} → Collected text bytes k → k < mostNodes
+    → (kind a b : ℕ) (after : List ℕ) → recordOf (lineOf text (k + 1)) ≡ nodeRecord kind a b
+    → after ≡ splice bytes (nodeBytes * k) (nodeRecord kind a b) → Collected text after (k + 1)
 unfolding recordsTo
 collected-more {text} {bytes} {k} c h kind a b after e f =
     let at : ℕ = nodeBytes * k in
-    let r : List ℕ = record5 kind a b in
+    let r : List ℕ = nodeRecord kind a b in
     let l = length-take-le at bytes (omega (arith, c .size)) in
     let n : length (take at bytes ++ r) ≡ nodeBytes * (k + 1) = length-append (take at bytes) r ∙ omega arith in
     record {

@@ -1,16 +1,16 @@
 -- Numbers in decimal, read digit by digit.
 -- Assumes nothing.
-use mathlib.Core.Path.{_≡_, refl, sym, ap, _∙_}
-use mathlib.Core.Bool.{Bool, true, false, not, _&&_, and-false}
+use mathlib.Core.Path.{_≡_, refl, _∙_}
+use mathlib.Core.Bool.{true, false, not, and-false}
 use mathlib.Core.List.{List, [], _∷_}
-use Prim.Native.Nat.{ℕ, zero, suc, _+_, _*_, _-_, _≤_, _<_}
+use Prim.Native.Nat.{ℕ, _+_, _*_, _-_, _≤_, _<_}
 use native.Mathlib.Numerals.{add-one}
 use native.Mathlib.Omega.{arith}
 use lib.Dec.{eqb}
 use lib.ListN.{length, getD, drop, drop-of-length-le}
 use lib.Seq.{drop-cons}
 use borrow.Author.Tests.{le-leb, lt-leb}
-use Rattle.nodefile.specs.Numbers.{isDigit, allDigits, noLeadingZero, valueFrom, valueOf, isNumber, numberOf}
+use Rattle.nodefile.specs.Numbers.{isDigit, allDigits, noLeadingZero, valueFrom, valueOf, numberOf}
 use Rattle.nodefile.specs.declared.field.Number.the-variants.{Is, Wrong}
 
 -- digits behind it make a number no smaller
@@ -37,7 +37,13 @@ pub record Reading (most : ℕ) (field : List ℕ) (value i : ℕ) : Type 0 wher
   pub small : value ≤ most
 
 pub reading-start : (most : ℕ) (field : List ℕ) → noLeadingZero field ≡ true → Reading most field 0 0
-reading-start most field h = record { within = omega arith; starts = h; digits = refl; whole = refl; small = omega arith }
+reading-start most field h = record {
+  within = omega arith;
+  starts = h;
+  digits = refl;
+  whole = refl;
+  small = omega arith;
+}
 
 module _ {most : ℕ} {field : List ℕ} {value i : ℕ} (r : Reading most field value i) where
   module _ (h : i < length field) where
@@ -89,7 +95,8 @@ starts-one [] h = absurd (omega arith)
 starts-one (b ∷ []) h = refl
 starts-one (b ∷ c ∷ t) h = absurd (omega arith)
 
-pub starts-more : (field : List ℕ) → (length field ≡ 0 → ⊥) → (length field ≡ 1 → ⊥) → not (eqb (getD field 0 0) 48) ≡ noLeadingZero field
+pub starts-more : (field : List ℕ) → (length field ≡ 0 → ⊥) → (length field ≡ 1 → ⊥)
+    → not (eqb (getD field 0 0) 48) ≡ noLeadingZero field
 starts-more [] h g = absurd (h refl)
 starts-more (b ∷ []) h g = absurd (g refl)
 starts-more (b ∷ c ∷ t) h g = refl

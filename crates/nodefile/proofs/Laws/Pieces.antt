@@ -3,7 +3,7 @@
 use mathlib.Core.Path.{_≡_, refl, sym, ap, _∙_}
 use mathlib.Core.Bool.{Bool, true, false, cond}
 use mathlib.Core.List.{List, [], _∷_}
-use Prim.Native.Nat.{ℕ, zero, suc, _+_, _-_, _≤_, _<_}
+use Prim.Native.Nat.{ℕ, suc, _+_, _-_, _≤_, _<_}
 use native.Mathlib.Numerals.{add-one}
 use native.Mathlib.Omega.{arith}
 use lib.Dec.{eqb, leb}
@@ -29,7 +29,8 @@ module _ (mark : ℕ) where
   unfolding spot
   spot-here t i h e = rw (drop-cons t i 0 h, eq-eqb (getD t i 0) mark e)
 
-  pub spot-next : (t : List ℕ) (i : ℕ) → i < length t → (getD t i 0 ≡ mark → ⊥) → spot mark (drop i t) ≡ suc (spot mark (drop (i + 1) t))
+  pub spot-next : (t : List ℕ) (i : ℕ) → i < length t → (getD t i 0 ≡ mark → ⊥)
+      → spot mark (drop i t) ≡ suc (spot mark (drop (i + 1) t))
   unfolding spot
   spot-next t i h e = rw (add-one i, drop-cons t i 0 h, ne-eqb (getD t i 0) mark e)
 
@@ -43,20 +44,24 @@ module _ (mark : ℕ) where
   parted-first (b ∷ t) = go (eqb b mark) (parted-first t)
     where
       go : (c : Bool) → parted mark t ≡ take (spot mark t) t ∷ piecesAt mark t (suc (spot mark t))
-          → ahead c b (parted mark t) ≡ take (cond c 0 (suc (spot mark t))) (b ∷ t) ∷ piecesAt mark (b ∷ t) (suc (cond c 0 (suc (spot mark t))))
+          → ahead c b (parted mark t)
+          ≡ take (cond c 0 (suc (spot mark t))) (b ∷ t) ∷ piecesAt mark (b ∷ t) (suc (cond c 0 (suc (spot mark t))))
       go true e = rw (le-leb 1 (suc (length t)) (omega arith))
       go false e =
-          rw (e, leb-same (suc (suc (spot mark t))) (suc (length t)) (suc (spot mark t)) (length t) (λ h. omega arith) (λ h. omega arith))
+          let s = suc (spot mark t) in
+          rw (e, leb-same (suc s) (suc (length t)) s (length t) (λ h. omega arith) (λ h. omega arith))
 
   -- a cursor at a place, and the next mark from there on, or the end
-  pub parted-next : {t : List ℕ} {at end : ℕ} → MarkAt mark t at end → parted mark (drop at t) ≡ take (end - at) (drop at t) ∷ piecesAt mark t (end + 1)
+  pub parted-next : {t : List ℕ} {at end : ℕ} → MarkAt mark t at end
+      → parted mark (drop at t) ≡ take (end - at) (drop at t) ∷ piecesAt mark t (end + 1)
   parted-next {t} {at} {end} m =
       let s : ℕ = spot mark (drop at t) in
       let k : end - at ≡ s = omega (arith, m .place) in
       let n : end + 1 ≡ at + suc s = omega (arith, m .place) in
       let d = length-drop at t in
       let l : leb (suc s) (length (drop at t)) ≡ leb (at + suc s) (length t) =
-      leb-same (suc s) (length (drop at t)) (at + suc s) (length t) (λ g. omega arith) (λ g. omega (arith, m .behind, m .within)) in
+      leb-same (suc s) (length (drop at t)) (at + suc s) (length t)
+      (λ g. omega arith) (λ g. omega (arith, m .behind, m .within)) in
       parted-first (drop at t) ∙ rw (k, n, l, drop-drop (suc s) at t)
 
   pub pieces-within : (t : List ℕ) (at : ℕ) → at ≤ length t → piecesAt mark t at ≡ parted mark (drop at t)
@@ -65,7 +70,8 @@ module _ (mark : ℕ) where
   pub pieces-past : (t : List ℕ) (at : ℕ) → length t < at → piecesAt mark t at ≡ []
   pieces-past t at h = rw (lt-leb at (length t) h)
 
-  pub pieces-next : {t : List ℕ} {at end : ℕ} → MarkAt mark t at end → piecesAt mark t at ≡ take (end - at) (drop at t) ∷ piecesAt mark t (end + 1)
+  pub pieces-next : {t : List ℕ} {at end : ℕ} → MarkAt mark t at end
+      → piecesAt mark t at ≡ take (end - at) (drop at t) ∷ piecesAt mark t (end + 1)
   pieces-next {t} {at} m = pieces-within t at (omega (arith, m .behind, m .within)) ∙ parted-next m
 
   -- there is a piece
@@ -82,15 +88,16 @@ module _ (mark : ℕ) where
       go : (c : Bool) → leb (suc (spot mark t)) (length t) ≡ c → l ≡ t
       go true g =
           let none : piecesAt mark t (suc (spot mark t)) ≡ [] = cc f in
-          let q : parted mark (drop (suc (spot mark t)) t) ≡ [] = sym (pieces-within t (suc (spot mark t)) (leb-true (suc (spot mark t)) (length t) g)) ∙ none in
-          let z = ap length q in
-          absurd (omega (arith, z, ap length (parted-some (drop (suc (spot mark t)) t))))
+          let s = suc (spot mark t) in
+          let q : parted mark (drop s t) ≡ [] = sym (pieces-within t s (leb-true s (length t) g)) ∙ none in
+          absurd (omega (arith, ap length q, ap length (parted-some (drop s t))))
       go false g =
           let q : l ≡ take (spot mark t) t = cc f in
           q ∙ take-all (spot mark t) t (let h = leb-false (suc (spot mark t)) (length t) g in omega arith)
 
   -- the first mark of all
-  pub parted-front : {t : List ℕ} {end : ℕ} → MarkAt mark t 0 end → parted mark t ≡ take end t ∷ piecesAt mark t (end + 1)
+  pub parted-front : {t : List ℕ} {end : ℕ} → MarkAt mark t 0 end
+      → parted mark t ≡ take end t ∷ piecesAt mark t (end + 1)
   parted-front {t} {end} m =
       let k : end - 0 ≡ end = omega arith in
       parted-next m ∙ ap (λ (n : ℕ). take n t ∷ piecesAt mark t (end + 1)) k

@@ -5,20 +5,21 @@ use mathlib.Core.List.{List, [], _∷_, _++_, append-assoc}
 use Prim.Native.Nat.{ℕ, _+_, _/_, _%_, _≤_, _<_}
 use native.Mathlib.Numerals.{add-one, add-two, add-three, add-four}
 use native.Mathlib.Omega.{arith}
-use lib.ListN.{length, getD, set, take, drop, length-append, take-append-drop}
+use lib.ListN.{length, getD, set, take, drop}
 use lib.Seq.{sets-eq, set-split, take-suc, take-all, length-take-le, take-at}
 use Rattle.laws.specs.Splices.{splice}
 use Rattle.laws.proofs.Splices.{splice-splice, length-splice}
 use Rattle.formula.specs.Limits.{nodeBytes}
-use Rattle.nodefile.specs.Lines.{record5}
+use Rattle.nodefile.specs.Lines.{nodeRecord}
 
 -- five stores side by side
 pub stored-record : (l : List ℕ) (at kind a b : ℕ) → at + nodeBytes ≤ length l
-    → set (set (set (set (set l at kind) (at + 1) (a % 256)) (at + 2) (a / 256 % 256)) (at + 3) (b % 256)) (at + 4) (b / 256 % 256)
-    ≡ splice l at (record5 kind a b)
+    → set (set (set (set (set l at kind) (at + 1) (a % 256)) (at + 2) (a / 256 % 256)) (at + 3) (b % 256))
+    (at + 4) (b / 256 % 256)
+    ≡ splice l at (nodeRecord kind a b)
 stored-record l at kind a b h =
     rw (add-one at, add-two at, add-three at, add-four at)
-    (sets-eq (record5 kind a b) l at h ∙ append-assoc (take at l) (record5 kind a b) (drop (at + nodeBytes) l))
+    (sets-eq (nodeRecord kind a b) l at h ∙ append-assoc (take at l) (nodeRecord kind a b) (drop (at + nodeBytes) l))
 
 -- a buffer with the first i bytes of a list in front
 module _ (buffer bytes : List ℕ) (h : length bytes ≤ length buffer) where
@@ -32,7 +33,8 @@ module _ (buffer bytes : List ℕ) (h : length bytes ≤ length buffer) where
     pub copied-length : length (splice buffer 0 (take i bytes)) ≡ length buffer
     copied-length = length-splice buffer 0 (take i bytes) (omega (arith, taken))
 
-  pub copied-more : (i : ℕ) → i < length bytes → set (splice buffer 0 (take i bytes)) i (getD bytes i 0) ≡ splice buffer 0 (take (i + 1) bytes)
+  pub copied-more : (i : ℕ) → i < length bytes
+      → set (splice buffer 0 (take i bytes)) i (getD bytes i 0) ≡ splice buffer 0 (take (i + 1) bytes)
   copied-more i g =
       let k : i ≤ length bytes = omega arith in
       let b : ℕ = getD bytes i 0 in

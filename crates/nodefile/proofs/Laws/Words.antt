@@ -1,11 +1,10 @@
 -- Two runs of bytes, looked at byte by byte.
 -- Assumes nothing.
-use mathlib.Core.Path.{_≡_, refl, sym, ap, _∙_}
+use mathlib.Core.Path.{_≡_, refl}
 use mathlib.Core.Bool.{Bool, true, false}
-use mathlib.Core.List.{List, [], _∷_}
-use Prim.Native.Nat.{ℕ, suc, _+_, _≤_, _<_}
+use mathlib.Core.List.{List}
+use Prim.Native.Nat.{ℕ, _+_, _≤_, _<_}
 use native.Mathlib.Numerals.{add-one}
-use native.Mathlib.Omega.{arith}
 use lib.Dec.{leb}
 use lib.ListN.{length, getD, drop, drop-of-length-le}
 use lib.Seq.{drop-cons}
@@ -13,7 +12,8 @@ use borrow.Author.Tests.{leb-true, leb-false, eq-eqb, ne-eqb}
 use Rattle.nodefile.specs.Lines.{same}
 
 module _ (a b : List ℕ) (i : ℕ) where
-  pub same-next : i < length a → i < length b → getD a i 0 ≡ getD b i 0 → same (drop i a) (drop i b) ≡ same (drop (i + 1) a) (drop (i + 1) b)
+  pub same-next : i < length a → i < length b → getD a i 0 ≡ getD b i 0
+      → same (drop i a) (drop i b) ≡ same (drop (i + 1) a) (drop (i + 1) b)
   unfolding same
   same-next h g e = rw (add-one i, drop-cons a i 0 h, drop-cons b i 0 g, eq-eqb (getD a i 0) (getD b i 0) e)
 

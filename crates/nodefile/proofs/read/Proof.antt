@@ -1,9 +1,7 @@
 -- `nodefile::read` meets its contract: behind the option line each turn passes a right line, and its record is collected. Assumes nothing.
 use mathlib.Core.Path.{_≡_, refl, sym, ap, _∙_, subst}
 use mathlib.Core.Bool.{true}
-use mathlib.Core.List.{List}
-use Prim.Native.Nat.{ℕ, suc, _+_, _*_, _-_, _≤_, _<_}
-use native.Mathlib.Numerals.{add-one}
+use Prim.Native.Nat.{_+_, _*_, _-_, _≤_, _<_}
 use native.Mathlib.Omega.{arith}
 use borrow.Author.Needs.{needs}
 use lib.ListN.{length, take}
@@ -12,7 +10,7 @@ use Rattle.formula.specs.Limits.{nodeBytes, mostNodes}
 use Rattle.nodefile.specs.Limits.{mostBytes}
 use Rattle.nodefile.specs.Lines.{optionLine, optionCount}
 use Rattle.nodefile.specs.Files.{lineOf, fileRight, fileNodes}
-use Rattle.nodefile.specs.Steps.{OptionsFound, NodeFound, OptionsAre, NodeIs, nodeTest}
+use Rattle.nodefile.specs.Steps.{OptionsFound, NodeFound, NodeIs, nodeTest}
 use Rattle.nodefile.proofs.Laws.Files.{Standing, standing-start, options-standing, node-tested, node-standing, node-record, node-few, refused-here, right-end}
 use Rattle.nodefile.proofs.Laws.Files.{Collected, collected-start, collected-more, length-records}
 use Rattle.nodefile.proofs.Laws.Answers.{file-long, file-refused, file-no-room, file-stored}

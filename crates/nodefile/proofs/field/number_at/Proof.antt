@@ -1,6 +1,5 @@
 -- `nodefile::field::number_at` meets its contract: the field ends at the next tab, or with the line. Assumes nothing.
 use mathlib.Core.Path.{sym, _∙_}
-use native.Mathlib.Omega.{arith}
 use borrow.Author.Needs.{needs}
 use Rattle.nodefile.proofs.Laws.Fields.{field-missing, field-wrong, field-is}
 use Rattle.nodefile.proofs.field.number_at.Statement.{statement}

@@ -1,6 +1,5 @@
 -- `nodefile::line::node_at` meets its contract: the line ends at the next newline. Assumes nothing.
 use mathlib.Core.Path.{sym, _∙_}
-use native.Mathlib.Omega.{arith}
 use borrow.Author.Needs.{needs}
 use Rattle.nodefile.specs.Steps.{nodeTest}
 use Rattle.nodefile.proofs.Laws.Lines.{next-open, node-over, node-fails, node-is}

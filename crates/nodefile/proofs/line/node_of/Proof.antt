@@ -1,11 +1,10 @@
 -- `nodefile::line::node_of` meets its contract: four numbers, each up to its limit, no field more, and the number of this node. Assumes nothing.
-use mathlib.Core.Path.{sym, _∙_, subst}
+use mathlib.Core.Path.{subst}
 use mathlib.Core.List.{List, [], _∷_}
 use Prim.Native.Nat.{ℕ}
 use native.Mathlib.Omega.{arith}
 use borrow.Author.Needs.{needs}
 use Rattle.nodefile.specs.Limits.{mostNumber, mostKind}
-use Rattle.nodefile.specs.Lines.{nodeLimits}
 use Rattle.nodefile.specs.Steps.{FieldFound, FieldIs}
 use Rattle.nodefile.proofs.Laws.Nodes.{Left, left-start, left-next, node-number, node-more, node-other, node-right, number-small}
 use Rattle.nodefile.proofs.line.node_of.Statement.{statement}

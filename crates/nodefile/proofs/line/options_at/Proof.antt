@@ -1,6 +1,5 @@
 -- `nodefile::line::options_at` meets its contract: the line ends at the first newline. Assumes nothing.
 use mathlib.Core.Path.{sym, _∙_}
-use native.Mathlib.Omega.{arith}
 use borrow.Author.Needs.{needs}
 use lib.Seq.{length-take-le}
 use Rattle.nodefile.specs.Lines.{optionLine}

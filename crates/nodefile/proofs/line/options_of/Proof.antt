@@ -1,6 +1,5 @@
 -- `nodefile::line::options_of` meets its contract: the word, a number, and no field more. Assumes nothing.
 use mathlib.Core.Path.{sym, _∙_, subst}
-use native.Mathlib.Omega.{arith}
 use borrow.Author.Needs.{needs}
 use borrow.Author.Tests.{not-true, not-false}
 use lib.Seq.{length-take-le}
