@@ -1,4 +1,5 @@
--- `nodefile::read` meets its contract: behind the option line each turn passes a right line, and its record is collected. Assumes nothing.
+-- `nodefile::read` meets its contract: behind the option line each turn passes a right line and collects its record.
+-- Assumes nothing.
 use mathlib.Core.Path.{_≡_, refl, sym, ap, _∙_, subst}
 use mathlib.Core.Bool.{true}
 use Prim.Native.Nat.{_+_, _*_, _-_, _≤_, _<_}
@@ -11,7 +12,8 @@ use Rattle.nodefile.specs.Limits.{mostBytes}
 use Rattle.nodefile.specs.Lines.{optionLine, optionCount}
 use Rattle.nodefile.specs.Files.{lineOf, fileRight, fileNodes}
 use Rattle.nodefile.specs.Steps.{OptionsFound, NodeFound, NodeIs, nodeTest}
-use Rattle.nodefile.proofs.Laws.Files.{Standing, standing-start, options-standing, node-tested, node-standing, node-record, node-few, refused-here, right-end}
+use Rattle.nodefile.proofs.Laws.Files.{Standing, standing-start, options-standing, refused-here, right-end}
+use Rattle.nodefile.proofs.Laws.Files.{node-tested, node-standing, node-record, node-few}
 use Rattle.nodefile.proofs.Laws.Files.{Collected, collected-start, collected-more, length-records}
 use Rattle.nodefile.proofs.Laws.Answers.{file-long, file-refused, file-no-room, file-stored}
 use Rattle.nodefile.proofs.read.Statement.{statement}
@@ -19,7 +21,8 @@ use Rattle.nodefile.proofs.read.Tie as tie
 
 abbrev Inv-loop : tie.InvT-loop
 Inv-loop text table options next bytes₀ nodes₀ at₀ bytes nodes at =
-    (at ≤ length text) × (nodes ≤ mostNodes) × (options ≡ optionCount (lineOf text 0)) × Standing text at (nodes + 1) × Collected text bytes nodes
+    (at ≤ length text) × (nodes ≤ mostNodes) × (options ≡ optionCount (lineOf text 0))
+    × Standing text at (nodes + 1) × Collected text bytes nodes
 
 abbrev μ-loop : tie.MeasureT-loop
 μ-loop text table options next bytes₀ nodes₀ at₀ bytes nodes at = length text - at
@@ -44,8 +47,8 @@ returns-2 c =
     let x = short .before .before .before .args in
     let text = x .text .now in
     let wrong = subst (OptionsFound text) (c .enum-told .given .1) (read .options-at .ensures) in
-    file-refused text (x .table .now) (short .if1 .left)
-    (refused-here text (standing-start text) optionLine refl wrong (λ h. absurd (omega arith))) 1 refl
+    let refused = refused-here text (standing-start text) optionLine refl wrong (λ h. absurd (omega arith)) in
+    file-refused text (x .table .now) (short .if1 .left) refused 1 refl
 
 -- behind the option line
 loop-holds : tie.Need-loop-holds Inv-loop μ-loop
@@ -67,8 +70,9 @@ returns-3 c =
     let x = start-of at .args in
     let text = x .text .now in
     let wrong = subst (NodeFound text (l .at) (l .nodes)) (c .enum-told2 .given .1) (read .node-at .ensures) in
-    file-refused text (x .table .now) (short-of at)
-    (refused-here text (l .inv .3) (nodeTest (l .nodes)) (node-tested text (l .nodes)) wrong (λ h. turn .loop-test .taken)) (l .nodes + 2) (omega arith)
+    let refused = refused-here text (l .inv .3) (nodeTest (l .nodes)) (node-tested text (l .nodes)) wrong
+    (λ h. turn .loop-test .taken) in
+    file-refused text (x .table .now) (short-of at) refused (l .nodes + 2) (omega arith)
 
 -- the node of a line
 node-found : (c : tie.After-kind Inv-loop μ-loop)
@@ -88,6 +92,12 @@ few c =
     let at = c .before .before .before .before in
     node-few (start-of at .args .text .now) (at .loop .inv .3) (node-found c)
 
+-- the array has its size
+sized : (c : tie.After-kind Inv-loop μ-loop) → length (c .before .before .before .before .loop .bytes) ≡ nodeBytes * mostNodes
+sized c =
+    let at = c .before .before .before .before in
+    at .loop .inv .4 .size
+
 loop-again : tie.Need-loop-again Inv-loop μ-loop
 loop-again c =
     let kind = c .before .before .before .before in
@@ -103,8 +113,8 @@ loop-again c =
     )
 
 -- the whole file is right
-right : (c : tie.After-loop Inv-loop μ-loop) → let l = c .before .loop in let text = start-of (c .before) .args .text .now in
-    (fileRight text ≡ true) × (fileNodes text ≡ l .nodes)
+right : (c : tie.After-loop Inv-loop μ-loop)
+    → let l = c .before .loop in let text = start-of (c .before) .args .text .now in (fileRight text ≡ true) × (fileNodes text ≡ l .nodes)
 right c = right-end (start-of (c .before) .args .text .now) (c .before .loop .inv .3) (c .loop-test .left)
 
 returns-4 : tie.Need-returns-4 Inv-loop μ-loop
@@ -116,7 +126,8 @@ returns-4 c =
     file-no-room (x .text .now) (x .table .now) (short-of at) (r .0) _ (l .nodes) (l .inv .2) (r .1) (c .if2 .taken)
 
 -- the bytes that are copied
-copied : (c : tie.At-loop Inv-loop μ-loop) → length (take (nodeBytes * c .loop .nodes) (c .loop .bytes)) ≡ nodeBytes * c .loop .nodes
+copied : (c : tie.At-loop Inv-loop μ-loop)
+    → length (take (nodeBytes * c .loop .nodes) (c .loop .bytes)) ≡ nodeBytes * c .loop .nodes
 copied c = ap length (c .loop .inv .4 .front) ∙ length-records (start-of c .args .text .now) (c .loop .nodes)
 
 returns-5 : tie.Need-returns-5 Inv-loop μ-loop
@@ -147,12 +158,12 @@ read-spec =
     (λ c. search needs)
     (λ c. search needs)
     returns-3
-    (λ c. let at = c .before .before .before .before .before .before in sym (at .loop .inv .4 .size))
+    (λ c. sym (sized (c .before .before)))
     (λ c. search needs)
     (λ c. search needs)
-    (λ c κs. let kind = c .before .before in omega (arith, few kind, kind .before .before .before .before .loop .inv .4 .size))
+    (λ c κs. omega (arith, few (c .before .before), sized (c .before .before)))
     (λ c. search needs)
-    (λ c. omega (arith, node-found (c .before .before .before .before) .found .beyond, node-found (c .before .before .before .before) .found .within))
+    (λ c. let n = node-found (c .before .before .before .before) in omega (arith, n .found .beyond, n .found .within))
     loop-again
     (λ c. search needs)
     (λ c. search needs)

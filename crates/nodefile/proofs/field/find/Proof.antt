@@ -1,4 +1,4 @@
--- `nodefile::field::find` meets its contract: as long as the mark is not passed, it stands at the same place. Assumes nothing.
+-- `nodefile::field::find` meets its contract: from every place before it the mark is the same. Assumes nothing.
 use mathlib.Core.Path.{_≡_, refl}
 use Prim.Native.Nat.{_+_, _-_, _≤_}
 use native.Mathlib.Omega.{arith}
@@ -9,7 +9,8 @@ use Rattle.nodefile.proofs.field.find.Statement.{statement}
 use Rattle.nodefile.proofs.field.find.Tie as tie
 
 abbrev Inv-loop : tie.InvT-loop
-Inv-loop text at mark i₀ i = (i ≤ length text) × (at ≤ i) × (i + spot mark (drop i text) ≡ at + spot mark (drop at text))
+Inv-loop text at mark i₀ i =
+    (i ≤ length text) × (at ≤ i) × (i + spot mark (drop i text) ≡ at + spot mark (drop at text))
 
 abbrev μ-loop : tie.MeasureT-loop
 μ-loop text at mark i₀ i = length text - i
@@ -27,7 +28,8 @@ loop-again c =
     let turn = c .before .before in
     let l = turn .before .loop in
     let x = turn .before .before .args in
-    (omega arith, omega arith, omega (arith, l .inv .2, spot-next (x .mark) (x .text .now) (l .i) (turn .loop-test .taken) (c .if1 .left)))
+    let e = spot-next (x .mark) (x .text .now) (l .i) (turn .loop-test .taken) (c .if1 .left) in
+    (omega arith, omega arith, omega (arith, l .inv .2, e))
 
 returns-2 : tie.Need-returns-2 Inv-loop μ-loop
 returns-2 c =

@@ -11,7 +11,8 @@ returns-2 c =
     let read = c .before .before in
     let mark = read .before .before in
     let x = mark .before .before .before .args in
-    field-wrong (x .line .now) (x .at) (x .most) (mark .find .ensures) (sym (c .enum-told .given .1) ∙ read .number-of .ensures)
+    field-wrong (x .line .now) (x .at) (x .most) (mark .find .ensures)
+    (sym (c .enum-told .given .1) ∙ read .number-of .ensures)
 
 -- a number
 returns-3 : tie.Need-returns-3
@@ -20,7 +21,8 @@ returns-3 c =
     let read = value .before .before in
     let mark = read .before .before in
     let x = mark .before .before .before .args in
-    field-is (x .line .now) (x .at) (x .most) (mark .find .ensures) _ (sym (value .value .given .1) ∙ read .number-of .ensures)
+    field-is (x .line .now) (x .at) (x .most) (mark .find .ensures) _
+    (sym (value .value .given .1) ∙ read .number-of .ensures)
 
 pub number-at-spec : {M : Type 1} → statement M
 number-at-spec =

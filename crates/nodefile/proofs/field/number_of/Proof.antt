@@ -1,4 +1,4 @@
--- `nodefile::field::number_of` meets its contract: with each turn a digit more is read; the first fault decides. Assumes nothing.
+-- `nodefile::field::number_of` meets its contract: each turn reads a digit; the first fault decides. Assumes nothing.
 use mathlib.Core.Path.{sym, _∙_}
 use Prim.Native.Nat.{_-_}
 use native.Mathlib.Omega.{arith}
@@ -6,7 +6,8 @@ use borrow.Author.Needs.{needs}
 use borrow.Author.Tests.{not-true, not-false}
 use lib.ListN.{length}
 use Rattle.nodefile.proofs.Laws.Numbers.{Reading, reading-start, reading-more, reading-end}
-use Rattle.nodefile.proofs.Laws.Numbers.{reading-no-digit, reading-over, starts-wrong, is-digit, digit-below, digit-above}
+use Rattle.nodefile.proofs.Laws.Numbers.{reading-no-digit, reading-over, starts-wrong}
+use Rattle.nodefile.proofs.Laws.Numbers.{is-digit, digit-below, digit-above}
 use Rattle.nodefile.proofs.field.number_of.Statement.{statement}
 use Rattle.nodefile.proofs.field.number_of.Tie as tie
 
@@ -50,7 +51,8 @@ loop-again c =
     let above = c .before in
     let below = above .before in
     let turn = below .before .before in
-    reading-more (turn .before .loop .inv) (turn .loop-test .taken) (is-digit _ (below .if2 .left) (above .if3 .left)) (c .if4 .left)
+    let digit = is-digit _ (below .if2 .left) (above .if3 .left) in
+    reading-more (turn .before .loop .inv) (turn .loop-test .taken) digit (c .if4 .left)
 
 pub number-of-spec : {M : Type 1} → statement M
 number-of-spec =

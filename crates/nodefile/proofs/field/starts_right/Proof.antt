@@ -11,4 +11,4 @@ starts-right-spec =
     (λ c. starts-none (c .before .args .field .now) (c .if1 .taken))
     (λ c. starts-one (c .before .before .args .field .now) (c .if2 .taken))
     (λ c. search needs)
-    (λ c. let start = c .before .before .before in starts-more (start .args .field .now) (c .before .before .if1 .left) (c .before .if2 .left)))
+    (λ c. let some = c .before .before in starts-more (some .before .args .field .now) (some .if1 .left) (c .before .if2 .left)))

@@ -21,8 +21,8 @@ returns-3 c =
     let mark = ended .before in
     let few = mark .before in
     let x = few .before .before .args in
-    node-fails (x .text .now) (x .at) (mark .find .result) (x .node) (mark .find .ensures) (ended .if2 .left) (few .if1 .left)
-    (sym (c .enum-told .given .1) ∙ read .node-of .ensures)
+    node-fails (x .text .now) (x .at) (mark .find .result) (x .node) (mark .find .ensures)
+    (ended .if2 .left) (few .if1 .left) (sym (c .enum-told .given .1) ∙ read .node-of .ensures)
 
 returns-4 : tie.Need-returns-4
 returns-4 c =
@@ -32,8 +32,8 @@ returns-4 c =
     let mark = ended .before in
     let few = mark .before in
     let x = few .before .before .args in
-    node-is (x .text .now) (x .at) (mark .find .result) (x .node) (mark .find .ensures) (ended .if2 .left) (few .if1 .left) _ _ _
-    (sym (kind .kind .given .1) ∙ read .node-of .ensures)
+    node-is (x .text .now) (x .at) (mark .find .result) (x .node) (mark .find .ensures)
+    (ended .if2 .left) (few .if1 .left) _ _ _ (sym (kind .kind .given .1) ∙ read .node-of .ensures)
 
 pub node-at-spec : {M : Type 1} → statement M
 node-at-spec =

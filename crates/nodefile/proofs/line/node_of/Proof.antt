@@ -1,4 +1,5 @@
--- `nodefile::line::node_of` meets its contract: four numbers, each up to its limit, no field more, and the number of this node. Assumes nothing.
+-- `nodefile::line::node_of` meets its contract: four numbers, each up to its limit, no field more, and the number of
+-- this node. Assumes nothing.
 use mathlib.Core.Path.{subst}
 use mathlib.Core.List.{List, [], _∷_}
 use Prim.Native.Nat.{ℕ}
@@ -6,13 +7,14 @@ use native.Mathlib.Omega.{arith}
 use borrow.Author.Needs.{needs}
 use Rattle.nodefile.specs.Limits.{mostNumber, mostKind}
 use Rattle.nodefile.specs.Steps.{FieldFound, FieldIs}
-use Rattle.nodefile.proofs.Laws.Nodes.{Left, left-start, left-next, node-number, node-more, node-other, node-right, number-small}
+use Rattle.nodefile.proofs.Laws.Nodes.{Left, left-start, left-next, number-small}
+use Rattle.nodefile.proofs.Laws.Nodes.{node-number, node-more, node-other, node-right}
 use Rattle.nodefile.proofs.line.node_of.Statement.{statement}
 use Rattle.nodefile.proofs.line.node_of.Tie as tie
 
--- the places where a field is read: from each the way back to the one before it, and to the start
-abbrev start-of : tie.After-number → tie.Start
-start-of c = c .before .before .before .before
+-- the four places behind a field: the way back from each, the line, and where the next field begins
+abbrev from-number : tie.After-number → tie.Start
+from-number c = c .before .before .before .before
 
 abbrev number-of : tie.After-kind → tie.After-number
 number-of c = c .before .before .before .before
@@ -23,78 +25,94 @@ kind-of c = c .before .before .before .before
 abbrev a-of : tie.After-b → tie.After-a
 a-of c = c .before .before .before .before
 
-abbrev line-of : tie.After-number → List ℕ
-line-of c = start-of c .args .line .now
+abbrev from-kind : tie.After-kind → tie.Start
+from-kind c = from-number (number-of c)
+
+abbrev from-a : tie.After-a → tie.Start
+from-a c = from-kind (kind-of c)
+
+abbrev from-b : tie.After-b → tie.Start
+from-b c = from-a (a-of c)
+
+abbrev line : tie.Start → List ℕ
+line s = s .args .line .now
+
+abbrev second : tie.After-number → ℕ
+second c = c .number .given .0 .1 .0
+
+abbrev third : tie.After-kind → ℕ
+third c = c .kind .given .0 .1 .0
+
+abbrev fourth : tie.After-a → ℕ
+fourth c = c .a .given .0 .1 .0
+
+abbrev fifth : tie.After-b → ℕ
+fifth c = c .b .given .0 .1 .0
 
 -- what was read there
-number-read : (c : tie.After-number) → FieldIs (line-of c) 0 mostNumber (c .number .given .0 .0) (c .number .given .0 .1 .0)
-number-read c = subst (FieldFound (line-of c) 0 mostNumber) (c .number .given .1) (c .before .before .number-at .ensures)
+number-read : (c : tie.After-number) → FieldIs (line (from-number c)) 0 mostNumber (c .number .given .0 .0) (second c)
+number-read c = subst (FieldFound (line (from-number c)) 0 mostNumber) (c .number .given .1) (c .before .before .number-at .ensures)
 
-kind-read : (c : tie.After-kind)
-    → FieldIs (line-of (number-of c)) (number-of c .number .given .0 .1 .0) mostKind (c .kind .given .0 .0) (c .kind .given .0 .1 .0)
-kind-read c = subst (FieldFound (line-of (number-of c)) _ mostKind) (c .kind .given .1) (c .before .before .number-at2 .ensures)
+kind-read : (c : tie.After-kind) → FieldIs (line (from-kind c)) (second (number-of c)) mostKind (c .kind .given .0 .0) (third c)
+kind-read c = subst (FieldFound (line (from-kind c)) _ mostKind) (c .kind .given .1) (c .before .before .number-at2 .ensures)
 
-a-read : (c : tie.After-a)
-    → FieldIs (line-of (number-of (kind-of c))) (kind-of c .kind .given .0 .1 .0) mostNumber (c .a .given .0 .0) (c .a .given .0 .1 .0)
-a-read c = subst (FieldFound (line-of (number-of (kind-of c))) _ mostNumber) (c .a .given .1) (c .before .before .number-at3 .ensures)
+a-read : (c : tie.After-a) → FieldIs (line (from-a c)) (third (kind-of c)) mostNumber (c .a .given .0 .0) (fourth c)
+a-read c = subst (FieldFound (line (from-a c)) _ mostNumber) (c .a .given .1) (c .before .before .number-at3 .ensures)
 
-b-read : (c : tie.After-b)
-    → FieldIs (line-of (number-of (kind-of (a-of c)))) (a-of c .a .given .0 .1 .0) mostNumber (c .b .given .0 .0) (c .b .given .0 .1 .0)
-b-read c = subst (FieldFound (line-of (number-of (kind-of (a-of c)))) _ mostNumber) (c .b .given .1) (c .before .before .number-at4 .ensures)
+b-read : (c : tie.After-b) → FieldIs (line (from-b c)) (fourth (a-of c)) mostNumber (c .b .given .0 .0) (fifth c)
+b-read c = subst (FieldFound (line (from-b c)) _ mostNumber) (c .b .given .1) (c .before .before .number-at4 .ensures)
 
--- what is left to decide behind a field
-left-number : (c : tie.After-number) → Left (line-of c) (mostKind ∷ mostNumber ∷ mostNumber ∷ []) (c .number .given .0 .1 .0)
-left-number c = left-next (line-of c) (left-start (line-of c)) (number-read c)
+-- what is left to decide there
+left-number : (c : tie.After-number) → Left (line (from-number c)) (mostKind ∷ mostNumber ∷ mostNumber ∷ []) (second c)
+left-number c = left-next (line (from-number c)) (left-start (line (from-number c))) (number-read c)
 
-left-kind : (c : tie.After-kind) → Left (line-of (number-of c)) (mostNumber ∷ mostNumber ∷ []) (c .kind .given .0 .1 .0)
-left-kind c = left-next (line-of (number-of c)) (left-number (number-of c)) (kind-read c)
+left-kind : (c : tie.After-kind) → Left (line (from-kind c)) (mostNumber ∷ mostNumber ∷ []) (third c)
+left-kind c = left-next (line (from-kind c)) (left-number (number-of c)) (kind-read c)
 
-left-a : (c : tie.After-a) → Left (line-of (number-of (kind-of c))) (mostNumber ∷ []) (c .a .given .0 .1 .0)
-left-a c = left-next (line-of (number-of (kind-of c))) (left-kind (kind-of c)) (a-read c)
+left-a : (c : tie.After-a) → Left (line (from-a c)) (mostNumber ∷ []) (fourth c)
+left-a c = left-next (line (from-a c)) (left-kind (kind-of c)) (a-read c)
 
-left-b : (c : tie.After-b) → Left (line-of (number-of (kind-of (a-of c)))) [] (c .b .given .0 .1 .0)
-left-b c = left-next (line-of (number-of (kind-of (a-of c)))) (left-a (a-of c)) (b-read c)
+left-b : (c : tie.After-b) → Left (line (from-b c)) [] (fifth c)
+left-b c = left-next (line (from-b c)) (left-a (a-of c)) (b-read c)
 
 -- a field that is missing or wrong
 returns : tie.Need-returns
 returns c =
     let read = c .before .before in
-    let x = read .before .before .args in
-    let line = x .line .now in
-    node-number (x .node) line (left-start line) (subst (FieldFound line 0 mostNumber) (c .enum-told .given .1) (read .number-at .ensures))
+    let s = read .before .before in
+    node-number (s .args .node) (line s) (left-start (line s))
+    (subst (FieldFound (line s) 0 mostNumber) (c .enum-told .given .1) (read .number-at .ensures))
 
 returns-2 : tie.Need-returns-2
 returns-2 c =
     let read = c .before .before in
     let number = read .before .before in
-    let line = line-of number in
-    node-number (start-of number .args .node) line (left-number number)
-    (subst (FieldFound line _ mostKind) (c .enum-told2 .given .1) (read .number-at2 .ensures))
+    let s = from-number number in
+    node-number (s .args .node) (line s) (left-number number)
+    (subst (FieldFound (line s) _ mostKind) (c .enum-told2 .given .1) (read .number-at2 .ensures))
 
 returns-3 : tie.Need-returns-3
 returns-3 c =
     let read = c .before .before in
     let kind = read .before .before in
-    let number = number-of kind in
-    let line = line-of number in
-    node-number (start-of number .args .node) line (left-kind kind)
-    (subst (FieldFound line _ mostNumber) (c .enum-told3 .given .1) (read .number-at3 .ensures))
+    let s = from-kind kind in
+    node-number (s .args .node) (line s) (left-kind kind)
+    (subst (FieldFound (line s) _ mostNumber) (c .enum-told3 .given .1) (read .number-at3 .ensures))
 
 returns-4 : tie.Need-returns-4
 returns-4 c =
     let read = c .before .before in
     let a = read .before .before in
-    let number = number-of (kind-of a) in
-    let line = line-of number in
-    node-number (start-of number .args .node) line (left-a a)
-    (subst (FieldFound line _ mostNumber) (c .enum-told4 .given .1) (read .number-at4 .ensures))
+    let s = from-a a in
+    node-number (s .args .node) (line s) (left-a a)
+    (subst (FieldFound (line s) _ mostNumber) (c .enum-told4 .given .1) (read .number-at4 .ensures))
 
 -- a field more
 returns-5 : tie.Need-returns-5
 returns-5 c =
     let b = c .before .before in
-    let number = number-of (kind-of (a-of b)) in
-    node-more (start-of number .args .node) (line-of number) (left-b b) (c .if1 .taken)
+    let s = from-b b in
+    node-more (s .args .node) (line s) (left-b b) (c .if1 .taken)
 
 -- the line of another node
 returns-6 : tie.Need-returns-6
@@ -102,14 +120,14 @@ returns-6 c =
     let b = c .before .before .before in
     let a = a-of b in
     let kind = kind-of a in
-    let number = number-of kind in
-    node-other (start-of number .args .node) (line-of number) (number-read number) (kind-read kind) (a-read a) (b-read b) (c .before .if1 .left) (c .if2 .taken)
+    let s = from-b b in
+    node-other (s .args .node) (line s) (number-read (number-of kind)) (kind-read kind) (a-read a) (b-read b)
+    (c .before .if1 .left) (c .if2 .taken)
 
 -- the kind is a byte
 fits : tie.Need-cast-t17
 fits c =
-    let kind = kind-of (a-of (c .before .before .before)) in
-    let f = kind-read kind in
+    let f = kind-read (kind-of (a-of (c .before .before .before))) in
     omega (arith, f .same, number-small mostKind (f .piece) (f .number))
 
 returns-7 : tie.Need-returns-7
@@ -117,8 +135,9 @@ returns-7 c =
     let b = c .before .before .before in
     let a = a-of b in
     let kind = kind-of a in
-    let number = number-of kind in
-    node-right (start-of number .args .node) (line-of number) (number-read number) (kind-read kind) (a-read a) (b-read b) (c .before .if1 .left) (c .if2 .left)
+    let s = from-b b in
+    node-right (s .args .node) (line s) (number-read (number-of kind)) (kind-read kind) (a-read a) (b-read b)
+    (c .before .if1 .left) (c .if2 .left)
 
 pub node-of-spec : {M : Type 1} → statement M
 node-of-spec =

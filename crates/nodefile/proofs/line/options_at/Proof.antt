@@ -1,6 +1,7 @@
 -- `nodefile::line::options_at` meets its contract: the line ends at the first newline. Assumes nothing.
-use mathlib.Core.Path.{sym, _∙_}
+use mathlib.Core.Path.{_≡_, sym, _∙_}
 use borrow.Author.Needs.{needs}
+use lib.ListN.{length, take}
 use lib.Seq.{length-take-le}
 use Rattle.nodefile.specs.Lines.{optionLine}
 use Rattle.nodefile.proofs.Laws.Lines.{next-open, options-fail, options-are}
@@ -11,7 +12,8 @@ use Rattle.nodefile.proofs.line.options_at.Tie as tie
 returns : tie.Need-returns
 returns c =
     let mark = c .before in
-    next-open optionLine (mark .before .before .args .text .now) 0 (mark .find .result) (mark .find .ensures) (c .if1 .taken)
+    let text = mark .before .before .args .text .now in
+    next-open optionLine text 0 (mark .find .result) (mark .find .ensures) (c .if1 .taken)
 
 -- a wrong line
 returns-2 : tie.Need-returns-2
@@ -31,13 +33,17 @@ returns-3 c =
     options-are (mark .before .before .args .text .now) (mark .find .result) (mark .find .ensures) (ended .if1 .left) _
     (sym (count .count .given .1) ∙ read .options-of .ensures)
 
+-- the length of the part that is the line
+part : (c : tie.After-find) → c .find .result ≡ length (take (c .find .result) (c .before .before .args .text .now))
+part c = sym (length-take-le (c .find .result) (c .before .before .args .text .now) (c .find .ensures .within))
+
 pub options-at-spec : {M : Type 1} → statement M
 options-at-spec =
     tie.close
     (tie.spec
     (λ c κs. search needs)
     returns
-    (λ c. let m = c .before .before in sym (length-take-le (m .find .result) (m .before .before .args .text .now) (m .find .ensures .within)))
+    (λ c. part (c .before .before))
     (λ c κs. search needs)
     (λ c. search needs)
     (λ c. search needs)

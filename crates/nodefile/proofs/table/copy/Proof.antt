@@ -19,7 +19,8 @@ abbrev μ-loop : tie.MeasureT-loop
 kept : (c : tie.At-loop Inv-loop μ-loop) → length (c .loop .table) ≡ length (c .before .args .table .now)
 kept c =
     let x = c .before .args in
-    ap length (c .loop .inv .1) ∙ copied-length (x .table .now) (x .bytes .now) (c .before .pre) (c .loop .i) (c .loop .inv .0)
+    ap length (c .loop .inv .1)
+    ∙ copied-length (x .table .now) (x .bytes .now) (c .before .pre) (c .loop .i) (c .loop .inv .0)
 
 loop-again : tie.Need-loop-again Inv-loop μ-loop
 loop-again c =
