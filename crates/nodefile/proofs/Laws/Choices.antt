@@ -1,0 +1,15 @@
+-- What was chosen by a test tells how the test went.
+-- Assumes nothing.
+use mathlib.Core.Path.{_≡_, refl, sym}
+use mathlib.Core.Bool.{Bool, true, false, cond}
+
+module _ {A : Type 0} (x y : A) where
+  -- the second of two that differ
+  pub chose-second : (x ≡ y → ⊥) → (b : Bool) → y ≡ cond b x y → b ≡ false
+  chose-second d true e = absurd (d (sym e))
+  chose-second d false e = refl
+
+  -- what is not the second is the first
+  pub chose-first : (z : A) → (z ≡ y → ⊥) → (b : Bool) → z ≡ cond b x y → (b ≡ true) × (z ≡ x)
+  chose-first z d true e = (refl, e)
+  chose-first z d false e = absurd (d e)

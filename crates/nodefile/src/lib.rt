@@ -1,0 +1,59 @@
+// The node file: lines of text that give the option count and the nodes of a formula table.
+mod field;
+mod line;
+mod table;
+
+ghost use mathlib.Core.Path.{_≡_};
+ghost use Rattle.nodefile.specs.Files.{fileRead};
+use answer::Answer;
+use formula::node::MOST_NODES;
+use formula::node::NODE_BYTES;
+use line::NodeAt;
+use line::OptionsAt;
+
+const MOST_BYTES: usize = 65_536;
+
+const MOST_TABLE: usize = NODE_BYTES * MOST_NODES;
+
+// Reads a node file as the bytes of a table; reports the option count and the nodes.
+// The records are collected first: a wrong line behind them leaves the lent buffer as it was.
+pub fn read(text: &[u8], table: &mut [u8]) -> Answer
+    ensures { λ r. ⌜ record { answer = r; output = now (table .exit) } ≡ fileRead (now (text .entry)) (now (table .entry)) ⌝ }
+{
+    if text.len() > MOST_BYTES {
+        return Answer::Line { line: 0 };
+    }
+    let OptionsAt::Right {
+        count: options,
+        next,
+    } = line::options_at(text)
+    else {
+        return Answer::Line { line: 1 };
+    };
+    let mut bytes = [0u8; MOST_TABLE];
+    let mut nodes: u32 = 0;
+    let mut at = next;
+    while at < text.len() {
+        let NodeAt::Right {
+            kind,
+            a,
+            b,
+            next: behind,
+        } = line::node_at(text, at, nodes)
+        else {
+            return Answer::Line { line: nodes + 2 };
+        };
+        table::put_node(&mut bytes, NODE_BYTES * (nodes as usize), kind, a, b);
+        nodes += 1;
+        at = behind;
+    }
+    let size = NODE_BYTES * (nodes as usize);
+    if table.len() < size {
+        return Answer::Room;
+    }
+    table::copy(&bytes[..size], table);
+    Answer::Accepted {
+        first: options,
+        second: nodes,
+    }
+}
