@@ -11,6 +11,8 @@ use Rattle.answer.proofs.tell.Kinds as tell-kinds
 use Rattle.answer.proofs.tell.Reads as tell
 use Rattle.answer.proofs.is_refusal.Kinds as is-refusal-kinds
 use Rattle.answer.proofs.is_refusal.Reads as is-refusal
+use Rattle.answer.proofs.shown.Kinds as shown-kinds
+use Rattle.answer.proofs.shown.Reads as shown
 use Rattle.answer.proofs.put.Kinds as put-kinds
 use Rattle.answer.proofs.put.Reads as put
 use Rattle.answer.proofs.give.Kinds as give-kinds
@@ -23,6 +25,10 @@ tell-settled κs a r q s t e f = e ∙ sym f
 pub is-refusal-settled : (κs : Lfts 0) (a : Dens κs is-refusal-kinds.ps) (r q : resT is-refusal-kinds.r κs .Denot) (s t : AtExit (endedOf 0 is-refusal-kinds.ps is-refusal-kinds.r) κs)
     → is-refusal.Post κs a r s → is-refusal.Post κs a q t → r ≡ q
 is-refusal-settled κs a r q s t e f = e ∙ sym f
+
+pub shown-settled : (κs : Lfts 0) (a : Dens κs shown-kinds.ps) (r q : resT shown-kinds.r κs .Denot) (s t : AtExit (endedOf 0 shown-kinds.ps shown-kinds.r) κs)
+    → shown.Post κs a r s → shown.Post κs a q t → r ≡ q
+shown-settled κs a r q s t e f = e ∙ sym f
 
 pub put-settled : (κs : Lfts 1) (a : Dens κs put-kinds.ps) (r q : resT put-kinds.r κs .Denot) (s t : AtExit (endedOf 1 put-kinds.ps put-kinds.r) κs)
     → put.Post κs a r s → put.Post κs a q t → now (s .0) ≡ now (t .0)

@@ -89,7 +89,7 @@ pub fn is_refusal(answer: Answer) -> bool
 }
 
 // A place as it is shown: one that is too large for 32 bits shows as the largest number.
-fn shown(place: usize) -> u32
+pub fn shown(place: usize) -> u32
     ensures { λ r. ⌜ r ≡ cap mostShown place ⌝ }
 {
     if place < 4_294_967_295 {

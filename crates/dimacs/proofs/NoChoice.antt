@@ -71,8 +71,8 @@ use Rattle.dimacs.proofs.word.width.Kinds as word-width-kinds
 use Rattle.dimacs.proofs.word.width.Reads as word-width
 use Rattle.dimacs.proofs.word.literal_size.Kinds as word-literal-size-kinds
 use Rattle.dimacs.proofs.word.literal_size.Reads as word-literal-size
-use Rattle.dimacs.proofs.writer.put_number.Kinds as writer-put-number-kinds
-use Rattle.dimacs.proofs.writer.put_number.Reads as writer-put-number
+use Rattle.dimacs.proofs.writer.put_field.Kinds as writer-put-field-kinds
+use Rattle.dimacs.proofs.writer.put_field.Reads as writer-put-field
 use Rattle.dimacs.proofs.writer.put_text.Kinds as writer-put-text-kinds
 use Rattle.dimacs.proofs.writer.put_text.Reads as writer-put-text
 use Rattle.dimacs.proofs.reader.is_accepted.Kinds as reader-is-accepted-kinds
@@ -217,10 +217,10 @@ pub word-literal-size-settled : (κs : Lfts 0) (a : Dens κs word-literal-size-k
     → word-literal-size.Post κs a q t → r ≡ q
 word-literal-size-settled κs a r q s t e f = e .0 ∙ sym (f .0)
 
-pub writer-put-number-settled : (κs : Lfts 1) (a : Dens κs writer-put-number-kinds.ps) (r q : resT writer-put-number-kinds.r κs .Denot)
-    (s t : AtExit (endedOf 1 writer-put-number-kinds.ps writer-put-number-kinds.r) κs) → writer-put-number.Post κs a r s
-    → writer-put-number.Post κs a q t → (r ≡ q) × (now (s .0) ≡ now (t .0))
-writer-put-number-settled κs a r q s t e f = (e .place ∙ sym (f .place), e .list ∙ sym (f .list))
+pub writer-put-field-settled : (κs : Lfts 1) (a : Dens κs writer-put-field-kinds.ps) (r q : resT writer-put-field-kinds.r κs .Denot)
+    (s t : AtExit (endedOf 1 writer-put-field-kinds.ps writer-put-field-kinds.r) κs) → writer-put-field.Post κs a r s
+    → writer-put-field.Post κs a q t → (r ≡ q) × (now (s .0) ≡ now (t .0))
+writer-put-field-settled κs a r q s t e f = (e .place ∙ sym (f .place), e .list ∙ sym (f .list))
 
 pub writer-put-text-settled : (κs : Lfts 2) (a : Dens κs writer-put-text-kinds.ps) (r q : resT writer-put-text-kinds.r κs .Denot)
     (s t : AtExit (endedOf 2 writer-put-text-kinds.ps writer-put-text-kinds.r) κs) → writer-put-text.Post κs a r s → writer-put-text.Post κs a q t

@@ -12,7 +12,7 @@ mod token;
 mod word;
 mod writer;
 
-pub use writer::put_number;
+pub use writer::put_field;
 ghost use mathlib.Core.Path.{_≡_};
 ghost use Prim.Native.Nat.{_+_, _<_, _^_};
 ghost use lib.ListN.{length};

@@ -21,7 +21,7 @@ fn put_byte(text: &mut [u8], at: usize, byte: u8) -> usize
 }
 
 // Writes a number in decimal, and returns the next place.
-pub fn put_number(text: &mut [u8], at: usize, number: u32) -> usize
+fn put_number(text: &mut [u8], at: usize, number: u32) -> usize
     requires { ⌜ at + length (decimal number) ≤ length (now text) ⌝ }
     ensures { λ r. ⌜ Wrote (now (text .entry)) at (decimal number) (now (text .exit)) r ⌝ }
 {
@@ -46,7 +46,7 @@ fn put_start(text: &mut [u8])
 }
 
 // Writes a number in decimal and a byte behind it, and returns the next place.
-fn put_field(text: &mut [u8], at: usize, number: u32, end: u8) -> usize
+pub fn put_field(text: &mut [u8], at: usize, number: u32, end: u8) -> usize
     requires { ⌜ at + length (decimal number ++ (end ∷ [])) ≤ length (now text) ⌝ }
     ensures { λ r. ⌜ Wrote (now (text .entry)) at (decimal number ++ (end ∷ [])) (now (text .exit)) r ⌝ }
 {
