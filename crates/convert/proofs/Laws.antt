@@ -1,4 +1,5 @@
 -- Laws of converting, by subject.
+pub mod Accepted
 pub mod Counts
 pub mod Definitions
 pub mod Fitted

@@ -14,8 +14,7 @@ use denote.Triple.Clauses.{AtExit}
 use borrow.Fn.Kinds.{Dens, endedOf, resT}
 use Rattle.laws.specs.Splices.{splice}
 use Rattle.answer.specs.Numbers.{toldOf, refuses}
-use Rattle.answer.specs.Part.{Wrote, Left, afterwards, bytesOf, leaves}
-use Rattle.answer.specs.declared.Answer.{Answer}
+use Rattle.answer.specs.Part.{Wrote, Left, bytesOf, leaves}
 use Rattle.answer.specs.declared.Answer.the-variants.{Accepted}
 use Rattle.formula.specs.Checks.{checked}
 use Rattle.formula.specs.Nodes.{nodesOf, nodeIn}
@@ -34,7 +33,8 @@ use Rattle.clausal.specs.Satisfies.{satisfies, extended}
 use Rattle.clausal.specs.Totals.{literalsIn, sizeOf}
 use Rattle.clausal.proofs.Meaning.{sound, complete}
 use Rattle.clausal.proofs.Names.{output-named, option-range, helper-range, variable-range}
-use Rattle.convert.specs.Converted.{fitted, written, writtenUnder, convertedUnder, converted}
+use Rattle.convert.specs.Converted.{converted}
+use Rattle.convert.proofs.Laws.Accepted.{checks, sets, room, converts}
 use Rattle.convert.proofs.Laws.Fitted.{Fits, fits}
 use Rattle.convert.proofs.Laws.Helpers.{below-le}
 use Rattle.dimacs.specs.Clauses as dimacs
@@ -59,21 +59,6 @@ pub record Promise (t : List ℕ) (v : ℕ) (s before after : List ℕ) : Type 0
   pub helpers : (i : ℕ) → renamed s i ≡ true → v < helperOf v s i
   -- the bytes may be written as DIMACS, with the variables that are reported
   pub writable : wrongBytes bytes (variablesOf v s (length (nodesOf t))) ≡ false
-
--- a check that passed leaves the decision to what comes after it
-pub record Passed (a : Answer) (before : List ℕ) (w : Wrote) : Type 0 where
-  pub accepted : refuses a ≡ false
-  pub rest : afterwards a before w ≡ w
-
-passed : (a : Answer) (before : List ℕ) (w : Wrote) → refuses (afterwards a before w .answer) ≡ false → Passed a before w
-passed a before w e = go (refuses a) refl e
-  where
-    go : (b : Bool) → refuses a ≡ b → refuses (cond b (record { answer = a; output = before }) w .answer) ≡ false → Passed a before w
-    go true p q = absurd (subst T (sym p ∙ q) tt)
-    go false p q = record { accepted = p; rest = ap (λ (b : Bool). cond b (record { answer = a; output = before }) w) p }
-
-again : (x y : Wrote) → x ≡ y → refuses (x .answer) ≡ false → refuses (y .answer) ≡ false
-again x y e h = sym (ap (λ (w : Wrote). refuses (w .answer)) e) ∙ h
 
 -- a run that is stored at the start leads
 from-start : (l xs : List ℕ) → splice l 0 xs ≡ xs ++ drop (length xs) l
@@ -103,26 +88,17 @@ module _ (t : List ℕ) (v : ℕ) (s before : List ℕ) (ok : refuses (converted
   abbrev out : List Clause
   out = outputOf v s ns
 
-  first : Passed (checked t v) before (convertedUnder v ns s before)
-  first = passed (checked t v) before (convertedUnder v ns s before) ok
-
-  second : Passed (setChecked ns s) before (writtenUnder v ns s before)
-  second = passed (setChecked ns s) before (writtenUnder v ns s before) (again _ _ (first .rest) ok)
-
-  third : Passed (fitted (sizeOf out) (length before)) before (written v ns s before)
-  third = passed (fitted (sizeOf out) (length before)) before (written v ns s before) (again _ _ (first .rest ∙ second .rest) ok)
-
   table : checked t v ≡ Accepted 0 0
-  table = checked-accepted t v (first .accepted)
+  table = checked-accepted t v (checks t v s before ok .accepted)
 
   set : setChecked ns s ≡ Accepted 0 0
-  set = set-accepted ns s (second .accepted)
+  set = set-accepted ns s (sets t v s before ok .accepted)
 
   right : dimacs.Right (variablesOf v s (length ns)) out
   right =
-      let f = fits (sizeOf out) (length before) (third .accepted) in
+      let f = fits (sizeOf out) (length before) (room t v s before ok .accepted) in
       record {
-        variables = omega (arith, accepts t v 0 0 table .options, below-le s (length ns), length-nodesOf t, length-right t v (first .accepted) .most);
+        variables = omega (arith, accepts t v 0 0 table .options, below-le s (length ns), length-nodesOf t, length-right t v (checks t v s before ok .accepted) .most);
         clauses = omega (arith, f .clauses);
         literals = omega (arith, f .literals, literals-same out);
         within = within v (variablesOf v s (length ns)) s ns (variable-range t v s table set) (output-named v s ns);
@@ -134,7 +110,7 @@ module _ (t : List ℕ) (v : ℕ) (s before : List ℕ) (ok : refuses (converted
   pub promised : Promise t v s before (converted t v s before .output)
   promised = record {
     bytes = clausesBytes out;
-    leading = ap (λ (w : Wrote). w .output) (first .rest ∙ second .rest ∙ third .rest) ∙ from-start before (clausesBytes out);
+    leading = ap (λ (w : Wrote). w .output) (converts t v s before ok) ∙ from-start before (clausesBytes out);
     sound = λ ρ h. sound t v table s ρ (subst (λ (cs : List Clause). T (satisfies ρ cs)) decoded h);
     complete = λ ρ h. subst⁻¹ (λ (cs : List Clause). T (satisfies (extended ρ v s ns) cs)) decoded (complete t v table s ρ h);
     named = subst⁻¹ (Named v s ns) decoded (output-named v s ns);

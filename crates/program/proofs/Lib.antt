@@ -1,1 +1,3 @@
 -- Laws and theorems of the program.
+pub mod Laws
+pub mod NoChoice

@@ -1,0 +1,6 @@
+-- Laws of the program, by what is handed on.
+pub mod Lines
+pub mod Clauses
+pub mod Conversions
+pub mod Tables
+pub mod Files
