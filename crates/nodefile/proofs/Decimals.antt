@@ -91,7 +91,8 @@ taken n =
     n [] (omega arith) (omega arith) (record { digits = refl; value = refl; alone = λ z. refl }))
 
 -- a number is the decimal of its value, up to the limit ..
-pub number-whole : (most : ℕ) (field : List ℕ) → isNumber most field ≡ true → (field ≡ decimal (valueOf field)) × (valueOf field ≤ most)
+pub number-whole : (most : ℕ) (field : List ℕ) → isNumber most field ≡ true
+    → (field ≡ decimal (valueOf field)) × (valueOf field ≤ most)
 number-whole most field e =
     let p = both (noLeadingZero field) (allDigits field && leb (valueOf field) most) e in
     let q = both (allDigits field) (leb (valueOf field) most) (p .1) in

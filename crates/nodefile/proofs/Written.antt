@@ -139,7 +139,8 @@ node-written i line h =
     at : List (List ℕ) → ℕ → ℕ
     at fs j = valueOf (getD fs j [])
 
-    go : (fs : List (List ℕ)) → Within nodeLimits (valuesOf fs) → at fs 0 ≡ i → valuesOf fs ≡ i ∷ at fs 1 ∷ at fs 2 ∷ at fs 3 ∷ []
+    go : (fs : List (List ℕ)) → Within nodeLimits (valuesOf fs) → at fs 0 ≡ i
+        → valuesOf fs ≡ i ∷ at fs 1 ∷ at fs 2 ∷ at fs 3 ∷ []
     go [] w e = absurd (omega (arith, within-length w))
     go (f₀ ∷ []) w e = absurd (omega (arith, within-length w))
     go (f₀ ∷ f₁ ∷ []) w e = absurd (omega (arith, within-length w))
@@ -173,7 +174,8 @@ same-whole (x ∷ xs) (y ∷ ys) h =
 abbrev pub optionText : ℕ → List ℕ
 optionText v = optionsWord ++ (tab ∷ decimal v)
 
-pub options-written : (line : List ℕ) → optionLine line ≡ true → (line ≡ optionText (optionCount line)) × (optionCount line ≤ mostNumber)
+pub options-written : (line : List ℕ) → optionLine line ≡ true
+    → (line ≡ optionText (optionCount line)) × (optionCount line ≤ mostNumber)
 options-written line h =
     let w = go (fieldsOf line) h in
     (sym (joined-parted tab line) ∙ ap (joined tab) (w .0), w .1)

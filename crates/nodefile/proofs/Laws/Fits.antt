@@ -28,7 +28,8 @@ module _ (text : List ℕ) (right : fileRight text ≡ true) where
       go true e = leb-true (fileNodes text) mostNodes e
       go false e =
           let over : mostNodes < fileNodes text = leb-false (fileNodes text) mostNodes e in
-          let line : lineRight text 1025 ≡ true = first-before (lineRight text) (lineCount text) 1025 (omega (arith, all-right)) in
+          let line : lineRight text 1025 ≡ true =
+          first-before (lineRight text) (lineCount text) 1025 (omega (arith, all-right)) in
           let z : _≡_ {A = ℕ} 0 1 = cc in
           absurd (omega arith)
 
