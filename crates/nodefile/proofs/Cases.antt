@@ -22,6 +22,10 @@ word = 111 ∷ 112 ∷ 116 ∷ 105 ∷ 111 ∷ 110 ∷ 115 ∷ 9 ∷ []
 abbrev two : List ℕ
 two = word ++ (50 ∷ 10 ∷ [])
 
+-- `0\t2\t1\t0\n`
+abbrev zero : List ℕ
+zero = 48 ∷ 9 ∷ 50 ∷ 9 ∷ 49 ∷ 9 ∷ 48 ∷ 10 ∷ []
+
 -- the answer to a text, with a buffer of five bytes
 abbrev answers : List ℕ → Answer
 answers text = fileRead text (replicate 5 7) .answer
@@ -129,7 +133,7 @@ unfolding parted allDigits valueFrom areNumbers same recordsTo firstFrom
 number-wrong = refl
 
 -- `options\t2\n0\t2\t1\t0\n0\t2\t1\t0\n1\t2\n`
-number-again : answers (two ++ (48 ∷ 9 ∷ 50 ∷ 9 ∷ 49 ∷ 9 ∷ 48 ∷ 10 ∷ 48 ∷ 9 ∷ 50 ∷ 9 ∷ 49 ∷ 9 ∷ 48 ∷ 10 ∷ 49 ∷ 9 ∷ 50 ∷ 10 ∷ [])) ≡ Line 3
+number-again : answers (two ++ (zero ++ (zero ++ (49 ∷ 9 ∷ 50 ∷ 10 ∷ [])))) ≡ Line 3
 unfolding parted allDigits valueFrom areNumbers same recordsTo firstFrom
 number-again = refl
 
@@ -153,7 +157,7 @@ two-tabs = refl
 abbrev example : List ℕ
 example =
     two
-    ++ ((48 ∷ 9 ∷ 50 ∷ 9 ∷ 49 ∷ 9 ∷ 48 ∷ 10 ∷ [])
+    ++ (zero
     ++ ((49 ∷ 9 ∷ 50 ∷ 9 ∷ 50 ∷ 9 ∷ 48 ∷ 10 ∷ [])
     ++ ((50 ∷ 9 ∷ 55 ∷ 9 ∷ 48 ∷ 9 ∷ 49 ∷ 10 ∷ [])
     ++ ((51 ∷ 9 ∷ 55 ∷ 9 ∷ 50 ∷ 9 ∷ 50 ∷ 10 ∷ [])))))

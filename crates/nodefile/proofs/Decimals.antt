@@ -2,7 +2,7 @@
 -- and n is up to the limit.
 -- Assumes nothing.
 use mathlib.Core.Path.{_≡_, refl, sym, ap, _∙_, subst}
-use mathlib.Core.Bool.{Bool, true, false, _&&_}
+use mathlib.Core.Bool.{true, _&&_}
 use mathlib.Core.List.{List, [], _∷_, _++_, append-assoc, append-nil}
 use Prim.Native.Nat.{ℕ, _+_, _*_, _-_, _≤_, _<_}
 use native.Mathlib.Omega.{arith}
@@ -13,14 +13,9 @@ use Rattle.laws.specs.Decimals.{decimal}
 use Rattle.laws.proofs.Decimals.{decimal-one, decimal-more, decimal-taken}
 use Rattle.nodefile.specs.Numbers.{isDigit, allDigits, noLeadingZero, valueFrom, valueOf, isNumber, numberOf}
 use Rattle.nodefile.specs.declared.field.Number.the-variants.{Is, Wrong}
-use Rattle.nodefile.proofs.Laws.Choices.{chose-first}
+use Rattle.nodefile.proofs.Laws.Choices.{chose-first, both}
 use Rattle.nodefile.proofs.Laws.Fields.{number-differs, number-same}
 use Rattle.nodefile.proofs.Laws.Numbers.{is-digit}
-
--- both parts of a test
-both : (a b : Bool) → (a && b) ≡ true → (a ≡ true) × (b ≡ true)
-both true b e = (refl, e)
-both false b e = let z : _≡_ {A = ℕ} 0 1 = cc in absurd (omega arith)
 
 -- a digit is 48 and its value
 pub record Digit (b : ℕ) : Type 0 where
@@ -96,16 +91,32 @@ taken n =
     n [] (omega arith) (omega arith) (record { digits = refl; value = refl; alone = λ z. refl }))
 
 -- a number is the decimal of its value, up to the limit ..
+pub number-whole : (most : ℕ) (field : List ℕ) → isNumber most field ≡ true
+    → (field ≡ decimal (valueOf field)) × (valueOf field ≤ most)
+number-whole most field e =
+    let p = both (noLeadingZero field) (allDigits field && leb (valueOf field) most) e in
+    let q = both (allDigits field) (leb (valueOf field) most) (p .1) in
+    (sym (whole field (p .0) (q .0)), leb-true (valueOf field) most (q .1))
+
+-- .. and every such decimal is a number
+pub decimal-whole : (most n : ℕ) → n ≤ most → isNumber most (decimal n) ≡ true
+decimal-whole most n h =
+    let t = taken n in
+    rw (t .starts, t .digits, t .value, le-leb n most h)
+
+pub value-decimal : (n : ℕ) → valueOf (decimal n) ≡ n
+value-decimal n = taken n .value
+
+pub decimal-digits : (n : ℕ) → allDigits (decimal n) ≡ true
+decimal-digits n = taken n .digits
+
+-- a field is the number n exactly where it is the decimal of n, and n is up to the limit
 pub number-decimal : (most n : ℕ) (field : List ℕ) → Is n ≡ numberOf most field → (field ≡ decimal n) × (n ≤ most)
 number-decimal most n field e =
     let c = chose-first (Is (valueOf field)) Wrong (Is n) (number-differs n) (isNumber most field) e in
-    let p = both (noLeadingZero field) (allDigits field && leb (valueOf field) most) (c .0) in
-    let q = both (allDigits field) (leb (valueOf field) most) (p .1) in
     let v = number-same n (valueOf field) (c .1) in
-    (sym (ap decimal v ∙ whole field (p .0) (q .0)), omega (arith, v, leb-true (valueOf field) most (q .1)))
+    let w = number-whole most field (c .0) in
+    (w .0 ∙ ap decimal (sym v), omega (arith, v, w .1))
 
--- .. and every such decimal is that number
 pub decimal-number : (most n : ℕ) → n ≤ most → Is n ≡ numberOf most (decimal n)
-decimal-number most n h =
-    let t = taken n in
-    rw (t .starts, t .digits, t .value, le-leb n most h)
+decimal-number most n h = rw (decimal-whole most n h, value-decimal n)

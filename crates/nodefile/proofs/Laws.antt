@@ -8,5 +8,6 @@ pub mod Options
 pub mod Nodes
 pub mod Lines
 pub mod Files
+pub mod Fits
 pub mod Answers
 pub mod Stored

@@ -3,3 +3,4 @@ pub mod Laws
 pub mod Cases
 pub mod Decimals
 pub mod NoChoice
+pub mod Written

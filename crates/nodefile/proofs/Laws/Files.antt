@@ -1,7 +1,7 @@
 -- A file, line by line: what a reader knows who stands behind some right lines, and the records that it has collected.
 -- Assumes nothing.
 use mathlib.Core.Path.{_≡_, refl, sym, ap, _∙_}
-use mathlib.Core.Bool.{Bool, true, false, _&&_, and-false}
+use mathlib.Core.Bool.{Bool, true, false, and-false}
 use mathlib.Core.List.{List, [], _∷_, _++_, append-assoc}
 use Prim.Native.Nat.{ℕ, zero, suc, _+_, _*_, _≤_, _<_}
 use native.Mathlib.Nat.{add-zero}
@@ -20,6 +20,7 @@ use Rattle.nodefile.specs.Pieces.{parted}
 use Rattle.nodefile.specs.Lines.{optionCount, nodeLine, recordOf, nodeRecord}
 use Rattle.nodefile.specs.Files.{lineCount, lineOf, lineRight, firstWrong, fileRight, fileNodes, recordsTo}
 use Rattle.nodefile.specs.Steps.{nextPasses, LineIs, OptionsAre, nodeTest, NodeIs}
+use Rattle.nodefile.proofs.Laws.Choices.{both}
 use Rattle.nodefile.proofs.Laws.Pieces.{parted-some, parted-alone}
 
 -- the lowest wrong or missing line is line i
@@ -60,7 +61,8 @@ module _ (text : List ℕ) where
           record {
             behind = sym (drop-drop 1 i (parted newline text)) ∙ ap (drop 1) (s .behind ∙ f .pieces);
             looking =
-                looking-more (lineRight text) (lineCount text) i (s .looking) (omega (arith, all, some)) (e ∙ ap test passed-line ∙ f .passes);
+                let right : lineRight text i ≡ true = e ∙ ap test passed-line ∙ f .passes in
+                looking-more (lineRight text) (lineCount text) i (s .looking) (omega (arith, all, some)) right;
           }
 
     -- what stands here is not ended: the option line, or some bytes
@@ -126,11 +128,7 @@ module _ (text : List ℕ) where
     node-record = ap recordOf (passed-line s (n .found)) ∙ n .same
 
     pub node-few : k < mostNodes
-    node-few = go (ltb k mostNodes) refl (n .found .passes)
-      where
-        go : (t : Bool) → ltb k mostNodes ≡ t → (t && nodeLine k (n .line)) ≡ true → k < mostNodes
-        go true e f = ltb-true k mostNodes e
-        go false e f = let z : _≡_ {A = ℕ} 0 1 = cc in absurd (omega arith)
+    node-few = ltb-true k mostNodes (both (ltb k mostNodes) (nodeLine k (n .line)) (n .found .passes) .0)
 
   -- the end of the text, behind the option line and k node lines
   pub right-end : {at k : ℕ} → Standing at (k + 1) → length text ≤ at → (fileRight text ≡ true) × (fileNodes text ≡ k)

@@ -1,7 +1,7 @@
 -- The line of a node, field by field.
 -- Assumes nothing.
 use mathlib.Core.Path.{_≡_, sym, ap, _∙_}
-use mathlib.Core.Bool.{Bool, true, false, _&&_}
+use mathlib.Core.Bool.{true, false, _&&_}
 use mathlib.Core.List.{List, [], _∷_}
 use Prim.Native.Nat.{ℕ, _≤_, _<_}
 use native.Mathlib.Omega.{arith}
@@ -13,6 +13,7 @@ use Rattle.nodefile.specs.Numbers.{isNumber, noLeadingZero, allDigits, v
 use Rattle.nodefile.specs.Lines.{fieldsOf, fieldValue, areNumbers, nodeLimits}
 use Rattle.nodefile.specs.Steps.{piecesAt, FieldIs, nodeOf}
 use Rattle.nodefile.specs.declared.line.Node.the-variants.{Is, Wrong}
+use Rattle.nodefile.proofs.Laws.Choices.{both}
 use Rattle.nodefile.proofs.Laws.Pieces.{pieces-within, pieces-past}
 use Rattle.nodefile.proofs.Laws.Fields.{numbers-step, numbers-more, numbers-end}
 
@@ -22,12 +23,9 @@ pub record Left (line limits : List ℕ) (at : ℕ) : Type 0 where
 
 -- a number is as small as its limit says
 pub number-small : (most : ℕ) (f : List ℕ) → isNumber most f ≡ true → valueOf f ≤ most
-number-small most f e = go (noLeadingZero f) (allDigits f) e
-  where
-    go : (a b : Bool) → (a && (b && leb (valueOf f) most)) ≡ true → valueOf f ≤ most
-    go true true e = leb-true (valueOf f) most e
-    go true false e = let z : _≡_ {A = ℕ} 0 1 = cc in absurd (omega arith)
-    go false b e = let z : _≡_ {A = ℕ} 0 1 = cc in absurd (omega arith)
+number-small most f e =
+    let p = both (noLeadingZero f) (allDigits f && leb (valueOf f) most) e in
+    leb-true (valueOf f) most (both (allDigits f) (leb (valueOf f) most) (p .1) .1)
 
 module _ (line : List ℕ) where
   pub left-start : Left line nodeLimits 0

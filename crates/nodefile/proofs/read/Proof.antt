@@ -93,7 +93,8 @@ few c =
     node-few (start-of at .args .text .now) (at .loop .inv .3) (node-found c)
 
 -- the array has its size
-sized : (c : tie.After-kind Inv-loop μ-loop) → length (c .before .before .before .before .loop .bytes) ≡ nodeBytes * mostNodes
+sized : (c : tie.After-kind Inv-loop μ-loop)
+    → length (c .before .before .before .before .loop .bytes) ≡ nodeBytes * mostNodes
 sized c =
     let at = c .before .before .before .before in
     at .loop .inv .4 .size
@@ -114,7 +115,8 @@ loop-again c =
 
 -- the whole file is right
 right : (c : tie.After-loop Inv-loop μ-loop)
-    → let l = c .before .loop in let text = start-of (c .before) .args .text .now in (fileRight text ≡ true) × (fileNodes text ≡ l .nodes)
+    → let l = c .before .loop in let text = start-of (c .before) .args .text .now in
+    (fileRight text ≡ true) × (fileNodes text ≡ l .nodes)
 right c = right-end (start-of (c .before) .args .text .now) (c .before .loop .inv .3) (c .loop-test .left)
 
 returns-4 : tie.Need-returns-4 Inv-loop μ-loop

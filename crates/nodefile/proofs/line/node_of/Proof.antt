@@ -51,9 +51,11 @@ fifth c = c .b .given .0 .1 .0
 
 -- what was read there
 number-read : (c : tie.After-number) → FieldIs (line (from-number c)) 0 mostNumber (c .number .given .0 .0) (second c)
-number-read c = subst (FieldFound (line (from-number c)) 0 mostNumber) (c .number .given .1) (c .before .before .number-at .ensures)
+number-read c =
+    subst (FieldFound (line (from-number c)) 0 mostNumber) (c .number .given .1) (c .before .before .number-at .ensures)
 
-kind-read : (c : tie.After-kind) → FieldIs (line (from-kind c)) (second (number-of c)) mostKind (c .kind .given .0 .0) (third c)
+kind-read : (c : tie.After-kind)
+    → FieldIs (line (from-kind c)) (second (number-of c)) mostKind (c .kind .given .0 .0) (third c)
 kind-read c = subst (FieldFound (line (from-kind c)) _ mostKind) (c .kind .given .1) (c .before .before .number-at2 .ensures)
 
 a-read : (c : tie.After-a) → FieldIs (line (from-a c)) (third (kind-of c)) mostNumber (c .a .given .0 .0) (fourth c)

@@ -20,7 +20,8 @@ part : (c : tie.After-find) → c .find .result ≡ length (take (c .find .resul
 part c = sym (length-take-le (c .find .result) (c .before .before .args .line .now) (c .find .ensures .within))
 
 -- the first field is the word
-worded : (c : tie.Else1) → let m = mark (c .before) in true ≡ same (take (m .find .result) (m .before .before .args .line .now)) optionsWord
+worded : (c : tie.Else1)
+    → let m = mark (c .before) in true ≡ same (take (m .find .result) (m .before .before .args .line .now)) optionsWord
 worded c = sym (not-false _ (c .if1 .left)) ∙ c .before .is-same .ensures
 
 -- another word
