@@ -60,7 +60,7 @@ struct bytes {
     }
 };
 
-/* Bytes that a call writes. They are the caller's, and must outlive the view. */
+/* Bytes that a call writes, and that a later call may read. They are the caller's, and must outlive the view. */
 struct room {
     std::uint8_t *data = nullptr;
     std::size_t size = 0;
@@ -75,6 +75,8 @@ struct room {
     constexpr room(Container &container) noexcept : data(container.data()), size(container.size())
     {
     }
+
+    constexpr operator bytes() const noexcept { return {data, size}; }
 };
 
 /* Totals that are this or more show as this. A conversion of such a total is refused, by 5 or by 6. */
