@@ -54,7 +54,8 @@ private:
     const bool is_quiet;
     const bool has_progress;
     const std::chrono::steady_clock::time_point began = std::chrono::steady_clock::now();
-    std::chrono::steady_clock::time_point last_shown = began;
+    // When the progress line was last written. It is first written with the first guard.
+    std::chrono::steady_clock::time_point last_shown{};
     bool is_shown = false;
     bool has_failed = false;
     uint64_t live_guards = 0;
