@@ -9,10 +9,13 @@
 
 #include <algorithm>
 #include <array>
+#include <charconv>
 #include <chrono>
 #include <cstdio>
-#include <cstring>
 #include <exception>
+#include <string>
+#include <string_view>
+#include <system_error>
 #include <vector>
 
 namespace {
@@ -21,19 +24,30 @@ constexpr uint32_t allowance = 1024;
 constexpr size_t most_nodes = 1024;
 constexpr int bad_usage = 2;
 
-constexpr char help[] = "nightly [--quiet] [--times] PATH...\n"
+constexpr char help[] = "nightly [--quiet] [--times] [--conflicts N] PATH...\n"
                         "\n"
                         "Says which branches can never be compiled. A PATH is a node file, a file of several node\n"
                         "files, or a folder of such files. guards.txt with index.tsv beside it is read by its index.\n"
                         "\n"
-                        "  --quiet   only dead branches, refusals and what is not read\n"
-                        "  --times   how long each step took\n"
-                        "  --help    this text\n"
+                        "  --quiet         only dead branches, refusals and what is not decided or not read\n"
+                        "  --times         how long each step took\n"
+                        "  --conflicts N   when the solver gives up on a guard, 1000000 if it is not given\n"
+                        "  --help          this text\n"
                         "\n"
                         "Dead branches go to standard output, one a line: name, `never compiled`, source.\n"
                         "Refusals go to standard error, one a line: name, `refused`, number, place, source.\n"
                         "\n"
-                        "Exit status: 0 all guards converted, 1 a guard refused, 2 bad usage or a path not read.\n";
+                        "Exit status: 0 all guards converted and decided, 1 a guard refused or undecided,\n"
+                        "2 bad usage or a path not read.\n";
+
+// What the command asks for.
+struct Command {
+    bool quiet = false;
+    bool times = false;
+    bool help = false;
+    int conflicts = 1000000;
+    std::vector<const char *> paths;
+};
 
 // Tells how long it is since it was last asked.
 class Stopwatch {
@@ -56,7 +70,7 @@ private:
 // from other threads gives them stacks of 512 KiB.
 class Pass : public GuardTaker {
 public:
-    explicit Pass(Report &report) : report(report) {}
+    Pass(Report &report, int conflicts) : report(report), solver(conflicts) {}
 
     void take(const Guard &guard) override
     {
@@ -116,41 +130,51 @@ private:
     Stopwatch watch;
 };
 
-int wrong_usage(const char *what, const char *word)
+// Reads the words of the command. Gives what is wrong with them, or nothing.
+std::string read_words(int count, char **words, Command &command)
 {
-    std::fprintf(stderr, "nightly: %s%s\n%s", what, word, help);
-    return bad_usage;
+    bool only_paths = false;
+    for (int at = 1; at < count; at++) {
+        const std::string_view word = words[at];
+        if (only_paths || word.substr(0, 1) != "-") {
+            command.paths.push_back(words[at]);
+        } else if (word == "--") {
+            only_paths = true;
+        } else if (word == "--quiet") {
+            command.quiet = true;
+        } else if (word == "--times") {
+            command.times = true;
+        } else if (word == "--help") {
+            command.help = true;
+        } else if (word == "--conflicts") {
+            const std::string_view number = ++at < count ? words[at] : "";
+            const char *last = number.data() + number.size();
+            const auto [end, error] = std::from_chars(number.data(), last, command.conflicts);
+            if (error != std::errc() || end != last || command.conflicts < 0)
+                return "--conflicts without a number";
+        } else {
+            return "no such option: " + std::string(word);
+        }
+    }
+    return command.paths.empty() && !command.help ? "no path is given" : "";
 }
 
 int run(int count, char **words)
 {
-    bool quiet = false;
-    bool times = false;
-    bool only_paths = false;
-    std::vector<const char *> paths;
-    for (int at = 1; at < count; at++) {
-        const char *word = words[at];
-        if (only_paths || word[0] != '-')
-            paths.push_back(word);
-        else if (std::strcmp(word, "--") == 0)
-            only_paths = true;
-        else if (std::strcmp(word, "--quiet") == 0)
-            quiet = true;
-        else if (std::strcmp(word, "--times") == 0)
-            times = true;
-        else if (std::strcmp(word, "--help") == 0)
-            return std::fputs(help, stdout) < 0 || std::fflush(stdout) != 0 ? bad_usage : 0;
-        else
-            return wrong_usage("no such option: ", word);
+    Command command;
+    const std::string fault = read_words(count, words, command);
+    if (!fault.empty()) {
+        std::fprintf(stderr, "nightly: %s\n%s", fault.c_str(), help);
+        return bad_usage;
     }
-    if (paths.empty())
-        return wrong_usage("no path is given", "");
+    if (command.help)
+        return std::fputs(help, stdout) < 0 || std::fflush(stdout) != 0 ? bad_usage : 0;
 
-    Report report(quiet);
-    Pass pass(report);
-    for (const char *path : paths)
+    Report report(command.quiet);
+    Pass pass(report, command.conflicts);
+    for (const char *path : command.paths)
         find_guards(path, pass);
-    if (times)
+    if (command.times)
         report.times(pass.times());
     report.end();
     return report.status();

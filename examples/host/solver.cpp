@@ -30,6 +30,7 @@ Verdict Solver::ask(simbolufa::bytes clauses, uint32_t variables)
     for (const uint32_t variable : numbered)
         numbers[variable] = 0;
     numbered.clear();
+    solver.limit("conflicts", most_conflicts);
     switch (solver.solve()) {
     case satisfiable:
         return Verdict::live;

@@ -20,6 +20,10 @@ enum class Verdict {
 
 class Solver {
 public:
+    // The solver gives up on a guard after so many conflicts. Conflicts are counted and not seconds, so that every pass
+    // over the same guards says the same.
+    explicit Solver(int most_conflicts) : most_conflicts(most_conflicts) {}
+
     // Asks about clause bytes that convert wrote. Guards are asked one by one and share nothing.
     Verdict ask(simbolufa::bytes clauses, uint32_t variables);
 
@@ -27,6 +31,7 @@ private:
     // The solver's own number of a guard's variable.
     int number_of(uint32_t variable);
 
+    const int most_conflicts;
     // 0 where a variable has no number yet. Kept between guards, with zeros.
     std::vector<int> numbers;
     // The variables that have a number, in the order of their numbers.
