@@ -139,8 +139,9 @@ void check_sizes()
     Bytes small(needed - 1, 9);
     expect("convert into one less", is(simbolufa::convert(table, 2, renamed, small), 7, 0, 0, 0));
     expect("a refusal leaves the room", small == Bytes(needed - 1, 9));
-    expect("no clause, no byte", is(simbolufa::needed_bytes(Bytes{1, 0, 0, 0, 0}, 0, Bytes(1), needed), 0, 0, 0, 0) &&
-                                     needed == 0 && is(simbolufa::convert(Bytes{1, 0, 0, 0, 0}, 0, Bytes(1), {}), 0, 0, 0, 0));
+    const Bytes truth = {1, 0, 0, 0, 0};
+    expect("no clause", is(simbolufa::needed_bytes(truth, 0, Bytes(1), needed), 0, 0, 0, 0) && needed == 0);
+    expect("no byte", is(simbolufa::convert(truth, 0, Bytes(1), {}), 0, 0, 0, 0));
     expect("524,288 literals", is_sized(doubled_literals(19), 1, 524288));
     expect("65,534 clauses", is_sized(many_clauses(false), 65534, 65534));
     expect("too many literals", is_refused(doubled_literals(20), 1, Bytes(21), 6, 0));
