@@ -1,0 +1,194 @@
+// The nightly pass: asks a solver, for each guard of a set, whether some choice of options compiles its branch.
+
+#include "guards.hpp"
+#include "node_file.hpp"
+#include "report.hpp"
+#include "solver.hpp"
+
+#include <simbolufa.hpp>
+
+#include <algorithm>
+#include <array>
+#include <charconv>
+#include <chrono>
+#include <cstdio>
+#include <exception>
+#include <string>
+#include <string_view>
+#include <system_error>
+#include <vector>
+
+namespace {
+
+constexpr uint32_t allowance = 1024;
+constexpr size_t most_nodes = 1024;
+constexpr int bad_usage = 2;
+
+constexpr char help[] = "nightly [--quiet] [--times] [--conflicts N] PATH...\n"
+                        "\n"
+                        "Says which branches can never be compiled. A PATH is a node file, a file of several node\n"
+                        "files, or a folder of such files. guards.txt with index.tsv beside it is read by its index.\n"
+                        "\n"
+                        "  --quiet         only dead branches, refusals and what is not decided or not read\n"
+                        "  --times         how long each step took\n"
+                        "  --conflicts N   when the solver gives up on a guard, 1000000 if it is not given\n"
+                        "  --help          this text\n"
+                        "\n"
+                        "Dead branches go to standard output, one a line: name, `never compiled`, source.\n"
+                        "Refusals go to standard error, one a line: name, `refused`, number, place, source.\n"
+                        "\n"
+                        "Exit status: 0 all guards converted and decided, 1 a guard refused or undecided,\n"
+                        "2 bad usage or a path not read.\n";
+
+// What the command asks for.
+struct Command {
+    bool quiet = false;
+    bool times = false;
+    bool help = false;
+    int conflicts = 1000000;
+    std::vector<const char *> paths;
+};
+
+// Tells how long it is since it was last asked.
+class Stopwatch {
+public:
+    Duration lap()
+    {
+        const auto now = std::chrono::steady_clock::now();
+        const Duration passed = now - last;
+        last = now;
+        return passed;
+    }
+
+private:
+    std::chrono::steady_clock::time_point last = std::chrono::steady_clock::now();
+};
+
+// Takes guards one by one. Its buffers serve all of them.
+//
+// Converting a deep table takes up to 474 KiB of stack, which the first thread of a program has. A host that converts
+// from other threads gives them stacks of 512 KiB.
+class Pass : public GuardTaker {
+public:
+    Pass(Report &report, int conflicts) : report(report), solver(conflicts) {}
+
+    void take(const Guard &guard) override
+    {
+        const simbolufa::answer told = convert(guard);
+        if (!told.accepted())
+            return report.refused(guard, told);
+        // convert tells the variables first.
+        const Verdict verdict = solver.ask({clauses.data(), needed}, told.first);
+        spent.solve += watch.lap();
+        switch (verdict) {
+        case Verdict::live:
+            return report.live();
+        case Verdict::dead:
+            return report.dead(guard);
+        case Verdict::undecided:
+            return report.undecided(guard);
+        }
+    }
+
+    void miss(const std::filesystem::path &path, const std::string &why) override { report.missed(path.string(), why); }
+
+    const Times &times() const { return spent; }
+
+private:
+    // From a node file to clauses. The first refusal ends it.
+    simbolufa::answer convert(const Guard &guard)
+    {
+        // The time since the last guard went into finding this one.
+        simbolufa::answer told = read_node_file(guard.text, file);
+        spent.read += watch.lap();
+        if (!told.accepted())
+            return told;
+
+        const simbolufa::room chosen{set.data(), simbolufa::nodes_of(file.table)};
+        told = simbolufa::choose(file.table, file.options, allowance, chosen);
+        spent.choose += watch.lap();
+        if (!told.accepted())
+            return told;
+
+        told = simbolufa::needed_bytes(file.table, file.options, chosen, needed);
+        if (told.accepted()) {
+            clauses.resize(std::max(clauses.size(), needed));
+            told = simbolufa::convert(file.table, file.options, chosen, {clauses.data(), needed});
+        }
+        spent.convert += watch.lap();
+        return told;
+    }
+
+    Report &report;
+    NodeFile file;
+    std::array<uint8_t, most_nodes> set{};
+    std::vector<uint8_t> clauses;
+    // How many bytes of `clauses` are those of the guard.
+    size_t needed = 0;
+    Solver solver;
+    Times spent;
+    Stopwatch watch;
+};
+
+// Reads the words of the command. Gives what is wrong with them, or nothing.
+std::string read_words(int count, char **words, Command &command)
+{
+    bool only_paths = false;
+    for (int at = 1; at < count; at++) {
+        const std::string_view word = words[at];
+        if (only_paths || word.substr(0, 1) != "-") {
+            command.paths.push_back(words[at]);
+        } else if (word == "--") {
+            only_paths = true;
+        } else if (word == "--quiet") {
+            command.quiet = true;
+        } else if (word == "--times") {
+            command.times = true;
+        } else if (word == "--help") {
+            command.help = true;
+        } else if (word == "--conflicts") {
+            const std::string_view number = ++at < count ? words[at] : "";
+            const char *last = number.data() + number.size();
+            const auto [end, error] = std::from_chars(number.data(), last, command.conflicts);
+            if (error != std::errc() || end != last || command.conflicts < 0)
+                return "--conflicts without a number";
+        } else {
+            return "no such option: " + std::string(word);
+        }
+    }
+    return command.paths.empty() && !command.help ? "no path is given" : "";
+}
+
+int run(int count, char **words)
+{
+    Command command;
+    const std::string fault = read_words(count, words, command);
+    if (!fault.empty()) {
+        std::fprintf(stderr, "nightly: %s\n%s", fault.c_str(), help);
+        return bad_usage;
+    }
+    if (command.help)
+        return std::fputs(help, stdout) < 0 || std::fflush(stdout) != 0 ? bad_usage : 0;
+
+    Report report(command.quiet);
+    Pass pass(report, command.conflicts);
+    for (const char *path : command.paths)
+        find_guards(path, pass);
+    if (command.times)
+        report.times(pass.times());
+    report.end();
+    return report.status();
+}
+
+} // namespace
+
+int main(int count, char **words)
+{
+    try {
+        return run(count, words);
+    } catch (const std::exception &fault) {
+        // Memory is out, for instance. The report is not complete, and nobody should take it for one.
+        std::fprintf(stderr, "nightly: the pass did not end: %s\n", fault.what());
+        return bad_usage;
+    }
+}

@@ -1,0 +1,68 @@
+// What the pass tells: dead branches on standard output, all else on standard error.
+
+#ifndef REPORT_HPP
+#define REPORT_HPP
+
+#include "guards.hpp"
+
+#include <simbolufa.hpp>
+
+#include <chrono>
+#include <cstdint>
+#include <cstdio>
+#include <map>
+#include <string>
+
+using Duration = std::chrono::steady_clock::duration;
+
+// How long each step took, over all guards.
+struct Times {
+    Duration read{};
+    Duration choose{};
+    Duration convert{};
+    Duration solve{};
+};
+
+class Report {
+public:
+    // A quiet report has no progress line and no summary.
+    explicit Report(bool quiet);
+
+    void live();
+    void dead(const Guard &guard);
+    void undecided(const Guard &guard);
+    void refused(const Guard &guard, const simbolufa::answer &answer);
+    void missed(const std::string &path, const std::string &why);
+
+    void times(const Times &times);
+    // Says what was found. Standard output is complete afterwards.
+    void end();
+
+    // For the shell: 0 where every guard was converted and decided, 1 where one was not, 2 where something was not read
+    // or not written. A dead branch is a finding and no failure.
+    int status() const;
+
+private:
+    uint64_t refusals() const;
+    uint64_t guards() const;
+    // The summary, without the time.
+    std::string counts() const;
+    // Writes a line, in place of the progress line where that stands.
+    void say(std::FILE *file, const std::string &line);
+    void progress();
+
+    const bool is_quiet;
+    const bool has_progress;
+    const std::chrono::steady_clock::time_point began = std::chrono::steady_clock::now();
+    // When the progress line was last written. It is first written with the first guard.
+    std::chrono::steady_clock::time_point last_shown{};
+    bool is_shown = false;
+    bool has_failed = false;
+    uint64_t live_guards = 0;
+    uint64_t dead_guards = 0;
+    uint64_t undecided_guards = 0;
+    uint64_t missed_paths = 0;
+    std::map<uint32_t, uint64_t> refused_guards;
+};
+
+#endif
