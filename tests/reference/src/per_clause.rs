@@ -6,7 +6,7 @@
 //! entered: there is nothing to write.
 
 use crate::answer::Refusal;
-use crate::polarity::marks;
+use crate::polarity::{marks, Mark};
 use crate::table::Node;
 
 const CLAUSE_CEILING: u32 = 65_535;
@@ -88,48 +88,85 @@ impl Row {
     }
 }
 
+/// The totals of a node with these own totals, as its parents see it.
+fn seen(own: Row, is_renamed: bool) -> Row {
+    if is_renamed {
+        return Row { p: UNIT, n: UNIT };
+    }
+    own
+}
+
+/// The totals of a node's own lists, made from what it sees of lower nodes.
+fn row(node: Node, seen: impl Fn(usize) -> Row) -> Row {
+    let or = |a: Row, b: Row| Row {
+        p: a.p.joined(b.p),
+        n: a.n.followed_by(b.n),
+    };
+    match node {
+        Node::False => Row { p: EMPTY, n: NONE },
+        Node::True => Row { p: NONE, n: EMPTY },
+        Node::Symbol(_) => Row { p: UNIT, n: UNIT },
+        Node::Not(a) => seen(a).turned(),
+        Node::And(a, b) => or(seen(a).turned(), seen(b).turned()).turned(),
+        Node::Or(a, b) => or(seen(a), seen(b)),
+        Node::Implies(a, b) => or(seen(a).turned(), seen(b)),
+        Node::Equivalent(a, b) => {
+            let (a, b) = (seen(a), seen(b));
+            Row {
+                p: a.n.joined(b.p).followed_by(b.n.joined(a.p)),
+                n: a.n.joined(b.n).followed_by(a.p.joined(b.p)),
+            }
+        }
+    }
+}
+
+/// The totals of each node's own lists.
+fn rows(nodes: &[Node], renamed: &[bool]) -> Vec<Row> {
+    let mut own: Vec<Row> = Vec::with_capacity(nodes.len());
+    for &node in nodes {
+        let row = row(node, |child| seen(own[child], renamed[child]));
+        own.push(row);
+    }
+    own
+}
+
+/// The total of the whole output.
+fn whole(own: &[Row], renamed: &[bool], marks: &[Mark]) -> Total {
+    let root = own.len() - 1;
+    let mut total = own[root].p;
+    for node in (0..root).filter(|&node| renamed[node]) {
+        if marks[node].positive {
+            total = total.followed_by(UNIT.joined(own[node].p));
+        }
+        if marks[node].negative {
+            total = total.followed_by(own[node].n.joined(UNIT));
+        }
+    }
+    total
+}
+
+/// The clause and the literal total of the output, as a measure shows them.
+pub fn measure(nodes: &[Node], renamed: &[bool]) -> [u32; 2] {
+    let total = whole(&rows(nodes, renamed), renamed, &marks(nodes));
+    if total.clauses == CLAUSE_CEILING {
+        return [CLAUSE_CEILING, LITERAL_CEILING];
+    }
+    [total.clauses, total.literals]
+}
+
 /// Writes clauses into a lent buffer.
 struct Writer<'a> {
     nodes: &'a [Node],
     /// The helper of each renamed node, else 0.
     helpers: &'a [i32],
-    /// The totals of each node's own lists.
-    own: Vec<Row>,
+    own: &'a [Row],
     out: &'a mut [u8],
     at: usize,
 }
 
 impl Writer<'_> {
-    /// The totals of a node as its parents see it.
     fn seen(&self, node: usize) -> Row {
-        if self.helpers[node] != 0 {
-            return Row { p: UNIT, n: UNIT };
-        }
-        self.own[node]
-    }
-
-    /// The totals of a node's own lists, made from those of lower nodes.
-    fn row(&self, node: Node) -> Row {
-        let or = |a: Row, b: Row| Row {
-            p: a.p.joined(b.p),
-            n: a.n.followed_by(b.n),
-        };
-        match node {
-            Node::False => Row { p: EMPTY, n: NONE },
-            Node::True => Row { p: NONE, n: EMPTY },
-            Node::Symbol(_) => Row { p: UNIT, n: UNIT },
-            Node::Not(a) => self.seen(a).turned(),
-            Node::And(a, b) => or(self.seen(a).turned(), self.seen(b).turned()).turned(),
-            Node::Or(a, b) => or(self.seen(a), self.seen(b)),
-            Node::Implies(a, b) => or(self.seen(a).turned(), self.seen(b)),
-            Node::Equivalent(a, b) => {
-                let (a, b) = (self.seen(a), self.seen(b));
-                Row {
-                    p: a.n.joined(b.p).followed_by(b.n.joined(a.p)),
-                    n: a.n.joined(b.n).followed_by(a.p.joined(b.p)),
-                }
-            }
-        }
+        seen(self.own[node], self.helpers[node] != 0)
     }
 
     fn word(&mut self, number: i32) {
@@ -202,59 +239,46 @@ pub fn convert(
     renamed: &[bool],
     out: &mut [u8],
 ) -> Result<[u32; 2], Refusal> {
-    let mut variables = options;
-    let mut helpers = vec![0; nodes.len()];
-    for node in (0..nodes.len()).filter(|&node| renamed[node]) {
-        variables += 1;
-        helpers[node] = variables as i32;
-    }
-    let room = out.len();
-    let mut writer = Writer {
-        nodes,
-        helpers: &helpers,
-        own: Vec::with_capacity(nodes.len()),
-        out,
-        at: 0,
-    };
-    for &node in nodes {
-        let row = writer.row(node);
-        writer.own.push(row);
-    }
-
-    let (root, marks) = (nodes.len() - 1, marks(nodes));
-    let mut total = writer.own[root].p;
-    for node in (0..root).filter(|&node| renamed[node]) {
-        if marks[node].positive {
-            total = total.followed_by(UNIT.joined(writer.own[node].p));
-        }
-        if marks[node].negative {
-            total = total.followed_by(writer.own[node].n.joined(UNIT));
-        }
-    }
+    let (own, marks) = (rows(nodes, renamed), marks(nodes));
+    let total = whole(&own, renamed, &marks);
     if total.clauses == CLAUSE_CEILING {
         return Err(Refusal::new(5));
     }
     if total.literals == LITERAL_CEILING {
         return Err(Refusal::new(6));
     }
-    if room < 4 * (total.clauses + total.literals) as usize {
+    if out.len() < 4 * (total.clauses + total.literals) as usize {
         return Err(Refusal::new(7));
     }
 
-    for k in 0..writer.own[root].p.clauses {
+    let mut variables = options;
+    let mut helpers = vec![0; nodes.len()];
+    for node in (0..nodes.len()).filter(|&node| renamed[node]) {
+        variables += 1;
+        helpers[node] = variables as i32;
+    }
+    let root = nodes.len() - 1;
+    let mut writer = Writer {
+        nodes,
+        helpers: &helpers,
+        own: &own,
+        out,
+        at: 0,
+    };
+    for k in 0..own[root].p.clauses {
         writer.body(root, true, k);
         writer.word(0);
     }
     for node in (0..root).filter(|&node| renamed[node]) {
         if marks[node].positive {
-            for k in 0..writer.own[node].p.clauses {
+            for k in 0..own[node].p.clauses {
                 writer.word(-helpers[node]);
                 writer.body(node, true, k);
                 writer.word(0);
             }
         }
         if marks[node].negative {
-            for k in 0..writer.own[node].n.clauses {
+            for k in 0..own[node].n.clauses {
                 writer.body(node, false, k);
                 writer.word(helpers[node]);
                 writer.word(0);

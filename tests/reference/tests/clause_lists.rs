@@ -174,6 +174,13 @@ const UNTOUCHED: u8 = 0xa5;
 
 /// Converts both ways with a buffer of so many bytes, and compares the whole buffer. Gives the refusal's number, or 0.
 fn converted_both_ways(nodes: &[Node], options: u32, renamed: &[bool], room: usize) -> u32 {
+    let size = measure(nodes, renamed);
+    let shown = [size.shown_clauses(), size.shown_literals()];
+    assert_eq!(
+        per_clause::measure(nodes, renamed),
+        shown,
+        "{renamed:?} {nodes:?}"
+    );
     let mut out = vec![UNTOUCHED; room];
     let found = per_clause::convert(nodes, options, renamed, &mut out);
     let mut expected = vec![UNTOUCHED; room];
