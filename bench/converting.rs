@@ -179,7 +179,7 @@ fn show(name: &str, formulas: &[Formula], often: Often) {
         Often::Once => timing::once(calls),
     };
     println!(
-        "  {name:29}  {:6}  {clauses:7}  {bytes:8}  {:9.0}  {:9.0}  {:9.0}  {:6.1}  {:6.1}  {:6.1}  {:6.2}  {:6.2}",
+        "  {name:29}  {:6}  {clauses:7}  {bytes:8}  {:9.0}  {:9.0}  {:9.0}  {:7.1}  {:6.1}  {:6.1}  {:6.2}  {:6.2}",
         formulas.len(),
         micros(library),
         micros(same),
@@ -222,12 +222,23 @@ fn main() {
     println!("converting; all tables of a row in turn, best of {ROUNDS} rounds");
     println!("same: the reference, clause by clause; walk: the reference, by backtracking");
     println!(
-        "  {:29}                              microseconds a row               MB of clauses a second     library's time",
-        ""
+        "  {:29}  {:6}  {:7}  {:8}  {:>31}  {:>23}  {:>14}",
+        "", "", "", "", "microseconds a row", "MB of clauses a second", "library's time"
     );
     println!(
-        "  {:29}  tables  clauses     bytes    library       same       walk  library    same    walk  / same  / walk",
-        ""
+        "  {:29}  {:>6}  {:>7}  {:>8}  {:>9}  {:>9}  {:>9}  {:>7}  {:>6}  {:>6}  {:>6}  {:>6}",
+        "",
+        "tables",
+        "clauses",
+        "bytes",
+        "library",
+        "same",
+        "walk",
+        "library",
+        "same",
+        "walk",
+        "/ same",
+        "/ walk"
     );
     let mut rows = vec![
         ("example 10, one long clause", over_symbol(long_clause)),

@@ -1,11 +1,39 @@
 //! Timing calls side by side.
+//!
+//! A time is the processor time of the thread. So it does not count the turns of other programs, but they may still slow it
+//! down through what they share with it.
 
 use std::hint::black_box;
-use std::time::{Duration, Instant};
+use std::time::Duration;
 
 /// Each time is the best of this many rounds, and a round lasts at least so long.
-pub const ROUNDS: usize = 5;
+pub const ROUNDS: usize = 7;
 const SHORTEST: Duration = Duration::from_millis(20);
+
+/// A time as Linux gives it on 64-bit machines.
+#[repr(C)]
+struct Time {
+    seconds: i64,
+    nanoseconds: i64,
+}
+
+extern "C" {
+    fn clock_gettime(clock: i32, time: *mut Time) -> i32;
+}
+
+/// Linux's number of the clock that counts the thread's processor time.
+const THREAD_TIME: i32 = 3;
+
+/// The processor time that the thread has used.
+fn used() -> Duration {
+    let mut time = Time {
+        seconds: 0,
+        nanoseconds: 0,
+    };
+    let result = unsafe { clock_gettime(THREAD_TIME, &mut time) };
+    assert_eq!(result, 0, "there is such a clock");
+    Duration::new(time.seconds as u64, time.nanoseconds as u32)
+}
 
 /// The best time of one call of each. A round goes through all of them, so that other work on the machine slows none of
 /// them alone.
@@ -27,11 +55,11 @@ pub fn best<const N: usize>(mut calls: [&mut dyn FnMut(); N]) -> [Duration; N] {
 
 /// The time of so many calls.
 fn timed(times: u32, call: &mut dyn FnMut()) -> Duration {
-    let began = Instant::now();
+    let began = used();
     for _ in 0..times {
         call();
     }
-    began.elapsed()
+    used() - began
 }
 
 /// The time of one call of each, for calls that take seconds.

@@ -16,6 +16,7 @@ pub unsafe extern "C" fn reference_answer(
 ) -> usize {
     let line = std::str::from_utf8(std::slice::from_raw_parts(request, length));
     let answered = calls::answer(line.expect("a request is text")).expect("it is a request");
-    std::slice::from_raw_parts_mut(answer, room)[..answered.len()].copy_from_slice(answered.as_bytes());
+    std::slice::from_raw_parts_mut(answer, room)[..answered.len()]
+        .copy_from_slice(answered.as_bytes());
     answered.len()
 }
