@@ -1,9 +1,10 @@
 //! Times converting through the library's entry beside the reference's two converters, in one run. A folder of guards
 //! may be given.
 //!
-//! The library finds each clause by its number, from the root down, so a node above many clauses is passed once for each
-//! of them. The reference's `per_clause` does the same, and writes into a lent buffer too. The reference's `convert` goes
-//! by another method: back to the last node at which a clause was chosen, and on from there. It allocates what it gives.
+//! The library finds each clause by its number, from the root down, so a node above many clauses is passed once for
+//! each of them. The reference's `per_clause` does the same, and writes into a lent buffer too. The reference's
+//! `convert` goes by another method: back to the last node at which a clause was chosen, and on from there. It
+//! allocates what it gives.
 
 mod library;
 mod tables;

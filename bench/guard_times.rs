@@ -1,6 +1,6 @@
-//! Prints a line for each guard: its clauses with nothing renamed, its clauses with the chosen set, the number of helpers,
-//! and the library's nanoseconds for choosing, measuring and converting it. Fields are parted by tabs. A folder of
-//! guards may be given; else it is the sample.
+//! Prints a line for each guard: its clauses with nothing renamed, its clauses with the chosen set, the number of
+//! helpers, and the library's nanoseconds for choosing, measuring and converting it. Fields are parted by tabs. A
+//! folder of guards may be given; else it is the sample.
 
 mod library;
 mod tables;

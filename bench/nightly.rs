@@ -1,8 +1,8 @@
 //! Times a whole pass over guards as a host makes it: check, choose, measure, convert and write each of them. Then
 //! each entry by itself. A folder of guards may be given; else it is the sample.
 //!
-//! The reference makes the same pass with its fastest functions: fast choosing, and converting clause by clause. Each of
-//! its steps reads the table and the set again, as each entry does. Its writer allocates what it gives.
+//! The reference makes the same pass with its fastest functions: fast choosing, and converting clause by clause. Each
+//! of its steps reads the table and the set again, as each entry does. Its writer allocates what it gives.
 
 mod library;
 mod tables;

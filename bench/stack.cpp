@@ -69,8 +69,8 @@ void push(Bytes &table, uint8_t kind, size_t a, size_t b)
 // Where the node before stands in a node of a chain.
 enum class Nested { only, left, right };
 
-// Nodes of one kind, each over the node before it, the lowest over a symbol. Where they have two children, the other one is
-// node 0: the symbol or, in its place, true.
+// Nodes of one kind, each over the node before it, the lowest over a symbol. Where they have two children, the other
+// one is node 0: the symbol or, in its place, true.
 struct Chain {
     std::string name;
     uint8_t kind;

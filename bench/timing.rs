@@ -1,7 +1,7 @@
 //! Timing calls side by side.
 //!
-//! A time is the processor time of the thread. So it does not count the turns of other programs, but they may still slow it
-//! down through what they share with it.
+//! A time is the processor time of the thread. So it does not count the turns of other programs, but they may still
+//! slow it down through what they share with it.
 
 use std::hint::black_box;
 use std::time::Duration;

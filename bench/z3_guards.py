@@ -1,13 +1,15 @@
 #!/usr/bin/env python3
-"""z3_guards TIMES [FOLDER]: times z3's tseitin-cnf tactic on guards beside the library, and counts the clauses of both.
+"""z3_guards TIMES [FOLDER]: times z3's tseitin-cnf tactic on guards beside the library, and counts the clauses of
+both.
 
-TIMES is the built bench/guard_times.rs. FOLDER has guards.txt; without it the sample in tests/corpus is asked. z3 is called
-through its Python module. A guard is built as a z3 formula and put into a goal before the clock starts, and the clock runs
-round `apply` alone. So that the cost of the call itself is known, the tactic `skip`, which does nothing, is timed too.
-The library's side is timed in the native program: choosing, measuring and converting. Each time is the best of some calls.
+TIMES is the built bench/guard_times.rs. FOLDER has guards.txt; without it the sample in tests/corpus is asked. z3 is
+called through its Python module. A guard is built as a z3 formula and put into a goal before the clock starts, and
+the clock runs round `apply` alone. So that the cost of the call itself is known, the tactic `skip`, which does
+nothing, is timed too. The library's side is timed in the native program: choosing, measuring and converting. Each
+time is the best of some calls.
 
-z3 does other work too. A goal takes a conjunction at the top apart, before the clock starts. The tactic tries its core,
-and where that fails, it simplifies the formula first and tries again.
+z3 does other work too. A goal takes a conjunction at the top apart, before the clock starts. The tactic tries its
+core, and where that fails, it simplifies the formula first and tries again.
 """
 
 import pathlib
@@ -109,7 +111,7 @@ def main():
     print(f"  the same with the cost of skip taken off: {sum(own) / (sum(applied) - sum(skipped)):.4f}")
     print(f"  clauses, library over z3: {sum(chosen) / sum(clauses):.2f}; with nothing renamed: {sum(plain)}")
     apart = sum(count > 1 for count in parts)
-    print(f"  z3 simplified {sum(simplified)} guards first; its goals took {apart} apart before, and have {sum(parts)} parts in all")
+    print(f"  z3 simplified {sum(simplified)} guards first; its goals took {apart} apart before")
     fewer = sum(a < b for a, b in zip(chosen, clauses))
     more = sum(a > b for a, b in zip(chosen, clauses))
     print(f"  the library has fewer clauses for {fewer} guards and more for {more}; helpers: {sum(helpers)}")

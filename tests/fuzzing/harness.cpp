@@ -1,8 +1,8 @@
 // Makes calls of the library from a fuzzer's bytes, and stops the program where a call does what no call may do.
 //
-// The head of a case names the entry, the numbers, the lengths, and how buffers lie. After a call these are held: every lent
-// input and every guard byte, what a refusal may change, the answer part, what other entries say about the same input, and for a
-// case that is not too long the whole answer of the reference.
+// The head of a case names the entry, the numbers, the lengths, and how buffers lie. After a call these are held:
+// every lent input and every guard byte, what a refusal may change, the answer part, what other entries say about the
+// same input, and for a case that is not too long the whole answer of the reference.
 
 #include "call.h"
 #include "tame.h"
@@ -180,7 +180,8 @@ void write_dimacs(const Case &from, const Bytes &bytes, uint32_t variables, size
         return;
     must(std::equal(expected.begin(), expected.end(), text.data()), "write_dimacs: another text");
     Bytes again;
-    Said back = read_dimacs(from, Bytes(expected.begin(), expected.end()), bytes.size(), SIMBOLUFA_ANSWER_LENGTH, again);
+    Bytes lent(expected.begin(), expected.end());
+    Said back = read_dimacs(from, lent, bytes.size(), SIMBOLUFA_ANSWER_LENGTH, again);
     must(back.number == 0 && again == bytes, "what was written does not come back");
     must(back.first == said.first && back.second == said.second, "its variables and clauses do not come back");
 }
@@ -194,11 +195,12 @@ Said read_dimacs(const Case &from, const Bytes &bytes, size_t room, size_t answe
     Lent &answer = call.answer_part(answer_length);
     uint32_t result =
         simbolufa_read_dimacs(text.data(), text.size(), out.data(), out.size(), answer.data(), answer.size());
-    size_t written = 0;
-    Bytes now = out.now();
-    Bytes part = answer.now();
+    Bytes now = out.now(), part = answer.now();
+    bool is_accepted = result == 0 && part.size() == SIMBOLUFA_ANSWER_LENGTH;
     // The bytes of an accepted text's clauses end with the last of the zeros that it declares.
-    for (uint32_t closed = 0; result == 0 && part.size() == SIMBOLUFA_ANSWER_LENGTH && closed < number_at(part, 12) && written + 4 <= now.size(); written += 4)
+    uint32_t declared = is_accepted ? number_at(part, 12) : 0;
+    size_t written = 0;
+    for (uint32_t closed = 0; closed < declared && written + 4 <= now.size(); written += 4)
         closed += number_at(now, written) == 0;
     Said said = call.made(result, written);
     must(result == 0 || result == 7 || result == 8 || result == 11, "read_dimacs: no such refusal");

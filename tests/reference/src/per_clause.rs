@@ -14,8 +14,8 @@ const LITERAL_CEILING: u32 = 1_000_000;
 
 /// The totals of a list, each at its ceiling.
 ///
-/// A list that is entered has fewer clauses than the ceiling. So have the lists that it is made of: each is a part of it,
-/// or a factor of a join that has a clause. So what quotients and sums of numbers are made from is exact.
+/// A list that is entered has fewer clauses than the ceiling. So have the lists that it is made of: each is a part of
+/// it, or a factor of a join that has a clause. So what quotients and sums of numbers are made from is exact.
 #[derive(Clone, Copy)]
 struct Total {
     clauses: u32,
