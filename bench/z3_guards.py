@@ -20,7 +20,8 @@ import time
 
 import z3
 
-ROUNDS = 5
+# As many as bench/timing.rs has.
+ROUNDS = 7
 SAMPLE = pathlib.Path(__file__).resolve().parent.parent / "tests" / "corpus"
 
 
