@@ -5,70 +5,16 @@
 //! The reference keeps the numbers and goes through those. It allocates what it gives, and its writer makes a string
 //! of each literal.
 
-use reference::{dimacs_reader, dimacs_writer};
-use std::hint::black_box;
-use std::time::{Duration, Instant};
+mod library;
+mod timing;
 
-extern "C" {
-    fn simbolufa_write_dimacs(
-        clauses: *const u8,
-        clauses_len: usize,
-        variables: u32,
-        text: *mut u8,
-        text_len: usize,
-        answer: *mut u8,
-        answer_len: usize,
-    ) -> u32;
-    fn simbolufa_read_dimacs(
-        text: *const u8,
-        text_len: usize,
-        clauses: *mut u8,
-        clauses_len: usize,
-        answer: *mut u8,
-        answer_len: usize,
-    ) -> u32;
-}
+use reference::{dimacs_reader, dimacs_writer};
+use std::time::Duration;
+use timing::{keep, micros, rate, ratio, ROUNDS};
 
 const VARIABLES: u32 = dimacs_writer::MOST_VARIABLES;
 const CLAUSES: u32 = dimacs_writer::MOST_CLAUSES;
 const LITERALS: u32 = dimacs_writer::MOST_LITERALS;
-/// Each time is the best of this many calls.
-const ROUNDS: usize = 7;
-
-/// Writes clause bytes through the library's entry. `text` has exactly the room that is needed.
-fn write_by_library(clauses: &[u8], text: &mut [u8]) {
-    let mut answer = [0; 16];
-    // Each pointer is lent with its own length, and no two buffers overlap.
-    let result = unsafe {
-        simbolufa_write_dimacs(
-            clauses.as_ptr(),
-            clauses.len(),
-            VARIABLES,
-            text.as_mut_ptr(),
-            text.len(),
-            answer.as_mut_ptr(),
-            answer.len(),
-        )
-    };
-    assert_eq!(result, 0, "the clause bytes are right");
-}
-
-/// Reads a text through the library's entry. `clauses` has exactly the room that is needed.
-fn read_by_library(text: &[u8], clauses: &mut [u8]) {
-    let mut answer = [0; 16];
-    // Each pointer is lent with its own length, and no two buffers overlap.
-    let result = unsafe {
-        simbolufa_read_dimacs(
-            text.as_ptr(),
-            text.len(),
-            clauses.as_mut_ptr(),
-            clauses.len(),
-            answer.as_mut_ptr(),
-            answer.len(),
-        )
-    };
-    assert_eq!(result, 0, "the text is right");
-}
 
 fn write_by_reference(clauses: &[u8]) -> Vec<u8> {
     let (text, _) =
@@ -79,16 +25,6 @@ fn write_by_reference(clauses: &[u8]) -> Vec<u8> {
 fn read_by_reference(text: &[u8]) -> Vec<u8> {
     let (clauses, _) = dimacs_reader::clause_bytes(text, usize::MAX).expect("the text is right");
     clauses
-}
-
-/// The best time of one call.
-fn time<T>(mut call: impl FnMut() -> T) -> Duration {
-    let timed = |_| {
-        let began = Instant::now();
-        black_box(call());
-        began.elapsed()
-    };
-    (0..ROUNDS).map(timed).min().expect("there is a round")
 }
 
 /// Clause bytes of mixed literals, as many in each clause as in another, or one more.
@@ -137,21 +73,20 @@ fn spaced(text: &[u8]) -> Vec<u8> {
     longer
 }
 
-fn show(name: &str, bytes: usize, library: Duration, reference: Duration) {
-    let rate = |time: Duration| bytes as f64 / 1e6 / time.as_secs_f64();
+fn show(name: &str, bytes: usize, [library, reference]: [Duration; 2]) {
     println!(
         "  {name:22}  {bytes:8}  {:9.0}  {:9.0}  {:7.1}  {:9.1}  {:6.2}",
-        library.as_secs_f64() * 1e6,
-        reference.as_secs_f64() * 1e6,
-        rate(library),
-        rate(reference),
-        library.as_secs_f64() / reference.as_secs_f64()
+        micros(library),
+        micros(reference),
+        rate(bytes, library),
+        rate(bytes, reference),
+        ratio(library, reference)
     );
 }
 
 fn main() {
     println!(
-        "{LITERALS} literals in {CLAUSES} clauses, {VARIABLES} variables; best of {ROUNDS} calls"
+        "{LITERALS} literals in {CLAUSES} clauses, {VARIABLES} variables; best of {ROUNDS} rounds"
     );
     println!(
         "  {:22}      text    library  reference  library  reference   ratio",
@@ -165,11 +100,13 @@ fn main() {
     let plain = write_by_reference(&clauses);
 
     let mut text = vec![0; plain.len()];
-    write_by_library(&clauses, &mut text);
+    library::write_dimacs(&clauses, VARIABLES, &mut text);
     assert!(text == plain, "both write the same text");
-    let library = time(|| write_by_library(&clauses, &mut text));
-    let reference = time(|| write_by_reference(&clauses));
-    show("written", plain.len(), library, reference);
+    let times = timing::best([
+        &mut || keep(library::write_dimacs(&clauses, VARIABLES, &mut text)),
+        &mut || keep(write_by_reference(&clauses)),
+    ]);
+    show("written", plain.len(), times);
 
     let texts = [
         ("read", plain.clone()),
@@ -178,7 +115,7 @@ fn main() {
     ];
     for (name, text) in texts {
         let mut read = vec![0; clauses.len()];
-        read_by_library(&text, &mut read);
+        library::read_dimacs(&text, &mut read);
         assert!(
             read == clauses,
             "{name}: the library gives the clauses back"
@@ -187,8 +124,10 @@ fn main() {
             read_by_reference(&text) == clauses,
             "{name}: so does the reference"
         );
-        let library = time(|| read_by_library(&text, &mut read));
-        let reference = time(|| read_by_reference(&text));
-        show(name, text.len(), library, reference);
+        let times = timing::best([
+            &mut || keep(library::read_dimacs(&text, &mut read)),
+            &mut || keep(read_by_reference(&text)),
+        ]);
+        show(name, text.len(), times);
     }
 }

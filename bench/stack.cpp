@@ -10,7 +10,6 @@
 #include <functional>
 #include <pthread.h>
 #include <string>
-#include <utility>
 #include <vector>
 
 namespace {
@@ -38,8 +37,8 @@ void *run(void *argument)
     return nullptr;
 }
 
-// Calls on a painted stack of its own. Gives what was returned, and the bytes below the caller's frame.
-Run painted(const std::function<uint32_t()> &call)
+// Makes a call that must be accepted, on a painted stack of its own. Gives the bytes below the caller's frame.
+size_t measured(const std::function<uint32_t()> &call)
 {
     static uint8_t *stack = static_cast<uint8_t *>(std::aligned_alloc(4096, stack_size));
     std::fill(stack, stack + stack_size, paint);
@@ -53,13 +52,11 @@ Run painted(const std::function<uint32_t()> &call)
         std::exit(1);
     }
     pthread_attr_destroy(&attributes);
-    return made;
-}
-
-void measure(const std::string &name, const std::function<uint32_t()> &call)
-{
-    Run made = painted(call);
-    std::printf("  %-44s %8zu bytes (returned %u)\n", name.c_str(), made.depth, made.result);
+    if (made.result != SIMBOLUFA_ACCEPTED) {
+        std::fprintf(stderr, "stack: refused with %u\n", made.result);
+        std::exit(1);
+    }
+    return made.depth;
 }
 
 using Bytes = std::vector<uint8_t>;
@@ -69,91 +66,113 @@ void push(Bytes &table, uint8_t kind, size_t a, size_t b)
     table.insert(table.end(), {kind, uint8_t(a), uint8_t(a >> 8), uint8_t(b), uint8_t(b >> 8)});
 }
 
-// True, a symbol, and nodes of one kind over the node before. Their second child is one of the first two.
-Bytes chain(uint8_t kind, size_t other)
+// Where the node before stands in a node of a chain.
+enum class Nested { only, left, right };
+
+// Nodes of one kind, each over the node before it, the lowest over a symbol. Where they have two children, the other
+// one is node 0: the symbol or, in its place, true.
+struct Chain {
+    std::string name;
+    uint8_t kind;
+    Nested nested;
+    bool with_true;
+};
+
+const std::vector<Chain> chains = {
+    {"nots", 3, Nested::only, false},
+    {"ands, left-nested, with a symbol", 4, Nested::left, false},
+    {"ands, right-nested, with a symbol", 4, Nested::right, false},
+    {"ors, left-nested, with a symbol", 5, Nested::left, false},
+    {"ors, right-nested, with a symbol", 5, Nested::right, false},
+    {"implications to a symbol", 6, Nested::left, false},
+    {"implications from a symbol", 6, Nested::right, false},
+    {"equivalences, left-nested, with true", 7, Nested::left, true},
+    {"equivalences, right-nested, with true", 7, Nested::right, true},
+};
+
+// A table of so many nodes. All are nested in each other, but for node 0 where it is true.
+Bytes table_of(const Chain &chain, size_t count)
 {
     Bytes table;
-    push(table, 1, 0, 0);
+    if (chain.with_true)
+        push(table, 1, 0, 0);
     push(table, 2, 1, 0);
-    while (table.size() < 5 * most_nodes)
-        push(table, kind, table.size() / 5 - 1, kind == 3 ? 0 : other);
+    while (table.size() < 5 * count) {
+        size_t before = table.size() / 5 - 1;
+        bool right = chain.nested == Nested::right;
+        push(table, chain.kind, right ? 0 : before, right ? before : 0);
+    }
     return table;
 }
 
-const std::vector<std::pair<std::string, Bytes>> tables = {
-    {"1,022 nots", chain(3, 0)},
-    {"1,022 ands with a symbol", chain(4, 1)},
-    {"1,022 ors with a symbol", chain(5, 1)},
-    {"1,022 implications to a symbol", chain(6, 1)},
-    {"1,022 equivalences with true", chain(7, 0)},
-};
+// What is lent beside a table. It is made before a call, so that the call's own stack is measured.
+Bytes answer(SIMBOLUFA_ANSWER_LENGTH), empty_set(most_nodes), chosen_set(most_nodes), out(size_t(4) << 20);
 
-// Calls an entry with each table.
-void each_table(const std::string &entry, const std::function<uint32_t(const Bytes &, Bytes &)> &call)
+uint32_t check(const Bytes &table)
 {
-    std::printf("%s\n", entry.c_str());
-    for (const auto &[name, table] : tables) {
-        Bytes answer(SIMBOLUFA_ANSWER_LENGTH);
-        measure(name, [&] { return call(table, answer); });
-    }
+    return simbolufa_check(table.data(), table.size(), 1, answer.data(), answer.size());
+}
+
+uint32_t measure(const Bytes &table)
+{
+    return simbolufa_measure(table.data(), table.size(), 1, empty_set.data(), table.size() / 5, answer.data(),
+                             answer.size());
+}
+
+uint32_t choose(const Bytes &table)
+{
+    return simbolufa_choose(table.data(), table.size(), 1, most_nodes, chosen_set.data(), table.size() / 5,
+                            answer.data(), answer.size());
+}
+
+uint32_t convert(const Bytes &table)
+{
+    return simbolufa_convert(table.data(), table.size(), 1, empty_set.data(), table.size() / 5, out.data(),
+                             out.size(), answer.data(), answer.size());
+}
+
+size_t measured_with(uint32_t (*entry)(const Bytes &), const Bytes &table)
+{
+    return measured([&] { return entry(table); });
 }
 
 } // namespace
 
 int main()
 {
-    std::printf("the stack below the caller, with tables of %zu nodes\n", most_nodes);
-    measure("nothing", [] { return 0; });
-    each_table("check", [](const Bytes &table, Bytes &answer) {
-        return simbolufa_check(table.data(), table.size(), 1, answer.data(), answer.size());
-    });
-#if defined(SIMBOLUFA_HAS_MEASURE) || defined(SIMBOLUFA_HAS_CHOOSE) || defined(SIMBOLUFA_HAS_CONVERT)
-    Bytes set(most_nodes);
-#endif
-#ifdef SIMBOLUFA_HAS_MEASURE
-    each_table("measure", [&](const Bytes &table, Bytes &answer) {
-        return simbolufa_measure(table.data(), table.size(), 1, set.data(), set.size(), answer.data(),
-                                 answer.size());
-    });
-#endif
-#ifdef SIMBOLUFA_HAS_CHOOSE
-    each_table("choose", [&](const Bytes &table, Bytes &answer) {
-        return simbolufa_choose(table.data(), table.size(), 1, most_nodes, set.data(), set.size(),
-                                answer.data(), answer.size());
-    });
-    std::fill(set.begin(), set.end(), 0);
-#endif
-#ifdef SIMBOLUFA_HAS_CONVERT
-    Bytes out(size_t(4) << 20);
-    each_table("convert", [&](const Bytes &table, Bytes &answer) {
-        return simbolufa_convert(table.data(), table.size(), 1, set.data(), set.size(), out.data(), out.size(),
-                                 answer.data(), answer.size());
-    });
-#endif
-#if defined(SIMBOLUFA_HAS_WRITE_DIMACS) || defined(SIMBOLUFA_HAS_READ_DIMACS)
+    constexpr size_t half = most_nodes / 2;
+    std::printf("the stack below the caller, in bytes; nothing called: %zu\n", measured([] { return 0; }));
+    std::printf("  %-38s  check  measure  choose  convert  convert  convert,\n", "tables of nested nodes");
+    std::printf("  %-38s  %5zu  %7zu  %6zu  %7zu  %7zu  a node more\n", "", most_nodes, most_nodes, most_nodes, half,
+                most_nodes);
+    for (const Chain &chain : chains) {
+        Bytes less = table_of(chain, half), more = table_of(chain, most_nodes);
+        size_t shallow = measured_with(convert, less), deep = measured_with(convert, more);
+        std::printf("  %-38s  %5zu  %7zu  %6zu  %7zu  %7zu  %8.1f\n", chain.name.c_str(), measured_with(check, more),
+                    measured_with(measure, more), measured_with(choose, more), shallow, deep,
+                    (double(deep) - double(shallow)) / half);
+    }
+    Bytes leaf;
+    push(leaf, 2, 1, 0);
+    std::printf("  %-38s  %5zu  %7zu  %6zu  %7zu\n", "one symbol", measured_with(check, leaf),
+                measured_with(measure, leaf), measured_with(choose, leaf), measured_with(convert, leaf));
+
     // A clause of the literals -1 and 40,000, over and over.
     constexpr size_t clause_count = 10000;
-    Bytes clauses, answer(SIMBOLUFA_ANSWER_LENGTH);
+    Bytes clauses;
     for (size_t i = 0; i < clause_count; i++)
         clauses.insert(clauses.end(), {255, 255, 255, 255, 0x40, 0x9c, 0, 0, 0, 0, 0, 0});
-    std::string text = "p cnf 40000 " + std::to_string(clause_count) + "\n";
+    std::string written = "p cnf 40000 " + std::to_string(clause_count) + "\n";
     for (size_t i = 0; i < clause_count; i++)
-        text += "-1 40000 0\n";
-    Bytes room(text.begin(), text.end());
-#endif
-#ifdef SIMBOLUFA_HAS_WRITE_DIMACS
-    std::printf("write_dimacs\n");
-    measure("10,000 clauses", [&] {
-        Bytes &written = room;
-        return simbolufa_write_dimacs(clauses.data(), clauses.size(), 40000, written.data(), written.size(),
-                                      answer.data(), answer.size());
+        written += "-1 40000 0\n";
+    Bytes text(written.begin(), written.end());
+    size_t writing = measured([&] {
+        return simbolufa_write_dimacs(clauses.data(), clauses.size(), 40000, text.data(), text.size(), answer.data(),
+                                      answer.size());
     });
-#endif
-#ifdef SIMBOLUFA_HAS_READ_DIMACS
-    std::printf("read_dimacs\n");
-    measure("10,000 clauses", [&] {
-        return simbolufa_read_dimacs(room.data(), room.size(), clauses.data(), clauses.size(), answer.data(),
+    size_t reading = measured([&] {
+        return simbolufa_read_dimacs(text.data(), text.size(), clauses.data(), clauses.size(), answer.data(),
                                      answer.size());
     });
-#endif
+    std::printf("  %zu clauses: write_dimacs %zu, read_dimacs %zu\n", clause_count, writing, reading);
 }

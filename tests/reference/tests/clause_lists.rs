@@ -1,10 +1,11 @@
-//! Totals, conversion and both ways of choosing, against lists made as the rules write them.
+//! Totals, both ways of converting and both ways of choosing, against lists made as the rules write them.
 
 use reference::answer::Refusal;
 use reference::choose::choose;
 use reference::convert::{clause_bytes, each_clause, measure};
 use reference::fast_choose::fast_choose;
 use reference::lists::Lists;
+use reference::per_clause;
 use reference::polarity::marks;
 use reference::set::may_be_renamed;
 use reference::table::Node;
@@ -166,6 +167,75 @@ fn totals_and_clauses_are_those_of_the_whole_lists() {
         );
     }
     assert!(compared > 3_000, "{compared}");
+}
+
+/// Bytes that neither way of converting writes are told apart from those that it does.
+const UNTOUCHED: u8 = 0xa5;
+
+/// Converts both ways with a buffer of so many bytes, and compares the whole buffer. Gives the refusal's number, or 0.
+fn converted_both_ways(nodes: &[Node], options: u32, renamed: &[bool], room: usize) -> u32 {
+    let size = measure(nodes, renamed);
+    let shown = [size.shown_clauses(), size.shown_literals()];
+    assert_eq!(
+        per_clause::measure(nodes, renamed),
+        shown,
+        "{renamed:?} {nodes:?}"
+    );
+    let mut out = vec![UNTOUCHED; room];
+    let found = per_clause::convert(nodes, options, renamed, &mut out);
+    let mut expected = vec![UNTOUCHED; room];
+    let values = clause_bytes(nodes, options, renamed, room).map(|(bytes, values)| {
+        expected[..bytes.len()].copy_from_slice(&bytes);
+        values
+    });
+    assert_eq!(found, values, "{room} bytes, {renamed:?} {nodes:?}");
+    assert!(out == expected, "{room} bytes, {renamed:?} {nodes:?}");
+    found.err().map_or(0, |refusal| refusal.number)
+}
+
+#[test]
+fn both_ways_of_converting_agree() {
+    let mut random = Random(123_456_789);
+    let mut counts = [0; 8];
+    for turn in 0..12_000 {
+        let nodes = table(&mut random, 1 + turn % 160);
+        let renamed = some_set(&mut random, &nodes);
+        let size = measure(&nodes, &renamed);
+        let needed = 4 * (size.clauses.min(65_535) + size.literals.min(1_000_000)) as usize;
+        // Long ones are compared seldom, so that the test stays quick.
+        let rooms = match needed {
+            0 => vec![0, 3],
+            1..=400_000 => vec![needed, needed + 9, needed - 1],
+            _ => vec![64],
+        };
+        for room in rooms {
+            counts[converted_both_ways(&nodes, 9, &renamed, room) as usize] += 1;
+        }
+    }
+    assert!(
+        counts[0] > 10_000 && counts[5] > 20 && counts[7] > 5_000,
+        "{counts:?}"
+    );
+}
+
+#[test]
+fn both_ways_of_converting_agree_at_the_ceilings() {
+    const ROOM: usize = 4 * (999_999 + 65_534);
+    let converted = |nodes: &[Node]| converted_both_ways(nodes, 1, &vec![false; nodes.len()], ROOM);
+    let mut many = vec![Symbol(1)];
+    for below in (0..28).step_by(2) {
+        many.extend([And(below, below), And(below + 1, 0)]);
+    }
+    many.push(And(28, 28));
+    assert_eq!(converted(&many), 0);
+    many.push(And(29, 0));
+    assert_eq!(converted(&many), 5);
+    assert_eq!(converted(&twice(Symbol(1), Or, 19)), 0);
+    assert_eq!(converted(&twice(Symbol(1), Or, 20)), 6);
+    assert_eq!(converted(&twice(False, And, 15)), 0);
+    assert_eq!(converted(&twice(False, And, 16)), 5);
+    assert_eq!(converted(&twice(False, Or, 1_023)), 0);
+    assert_eq!(converted(&twice(Symbol(1), Equivalent, 1_023)), 5);
 }
 
 #[test]

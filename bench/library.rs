@@ -1,0 +1,156 @@
+//! The library's entries, called as a host calls them.
+
+mod entry {
+    extern "C" {
+        pub fn simbolufa_check(
+            table: *const u8,
+            table_len: usize,
+            options: u32,
+            answer: *mut u8,
+            answer_len: usize,
+        ) -> u32;
+        pub fn simbolufa_measure(
+            table: *const u8,
+            table_len: usize,
+            options: u32,
+            set: *const u8,
+            set_len: usize,
+            answer: *mut u8,
+            answer_len: usize,
+        ) -> u32;
+        pub fn simbolufa_choose(
+            table: *const u8,
+            table_len: usize,
+            options: u32,
+            allowance: u32,
+            set: *mut u8,
+            set_len: usize,
+            answer: *mut u8,
+            answer_len: usize,
+        ) -> u32;
+        pub fn simbolufa_convert(
+            table: *const u8,
+            table_len: usize,
+            options: u32,
+            set: *const u8,
+            set_len: usize,
+            out: *mut u8,
+            out_len: usize,
+            answer: *mut u8,
+            answer_len: usize,
+        ) -> u32;
+        pub fn simbolufa_write_dimacs(
+            clauses: *const u8,
+            clauses_len: usize,
+            variables: u32,
+            text: *mut u8,
+            text_len: usize,
+            answer: *mut u8,
+            answer_len: usize,
+        ) -> u32;
+        pub fn simbolufa_read_dimacs(
+            text: *const u8,
+            text_len: usize,
+            clauses: *mut u8,
+            clauses_len: usize,
+            answer: *mut u8,
+            answer_len: usize,
+        ) -> u32;
+    }
+}
+
+/// Makes a call that must be accepted. Gives the two values of its answer part.
+fn accepted(call: impl FnOnce(*mut u8, usize) -> u32) -> [u32; 2] {
+    let mut answer = [0; 16];
+    let result = call(answer.as_mut_ptr(), answer.len());
+    assert_eq!(result, 0, "what is timed is accepted");
+    let value = |at: usize| {
+        u32::from_le_bytes([answer[at], answer[at + 1], answer[at + 2], answer[at + 3]])
+    };
+    [value(8), value(12)]
+}
+
+// In each call a pointer is lent with its own length, and no two buffers overlap.
+
+pub fn check(table: &[u8], options: u32) -> [u32; 2] {
+    accepted(|answer, answer_len| unsafe {
+        entry::simbolufa_check(table.as_ptr(), table.len(), options, answer, answer_len)
+    })
+}
+
+/// Clause and literal total.
+pub fn measure(table: &[u8], options: u32, set: &[u8]) -> [u32; 2] {
+    accepted(|answer, answer_len| unsafe {
+        entry::simbolufa_measure(
+            table.as_ptr(),
+            table.len(),
+            options,
+            set.as_ptr(),
+            set.len(),
+            answer,
+            answer_len,
+        )
+    })
+}
+
+/// Picks and clause total.
+pub fn choose(table: &[u8], options: u32, allowance: u32, set: &mut [u8]) -> [u32; 2] {
+    accepted(|answer, answer_len| unsafe {
+        entry::simbolufa_choose(
+            table.as_ptr(),
+            table.len(),
+            options,
+            allowance,
+            set.as_mut_ptr(),
+            set.len(),
+            answer,
+            answer_len,
+        )
+    })
+}
+
+/// Variables and clauses.
+pub fn convert(table: &[u8], options: u32, set: &[u8], out: &mut [u8]) -> [u32; 2] {
+    accepted(|answer, answer_len| unsafe {
+        entry::simbolufa_convert(
+            table.as_ptr(),
+            table.len(),
+            options,
+            set.as_ptr(),
+            set.len(),
+            out.as_mut_ptr(),
+            out.len(),
+            answer,
+            answer_len,
+        )
+    })
+}
+
+/// Variables and clauses.
+pub fn write_dimacs(clauses: &[u8], variables: u32, text: &mut [u8]) -> [u32; 2] {
+    accepted(|answer, answer_len| unsafe {
+        entry::simbolufa_write_dimacs(
+            clauses.as_ptr(),
+            clauses.len(),
+            variables,
+            text.as_mut_ptr(),
+            text.len(),
+            answer,
+            answer_len,
+        )
+    })
+}
+
+/// Variables and clauses.
+pub fn read_dimacs(text: &[u8], clauses: &mut [u8]) -> [u32; 2] {
+    accepted(|answer, answer_len| unsafe {
+        entry::simbolufa_read_dimacs(
+            text.as_ptr(),
+            text.len(),
+            clauses.as_mut_ptr(),
+            clauses.len(),
+            answer,
+            answer_len,
+        )
+    })
+}

@@ -1,0 +1,284 @@
+// Makes calls of the library from a fuzzer's bytes, and stops the program where a call does what no call may do.
+//
+// The head of a case names the entry, the numbers, the lengths, and how buffers lie. After a call these are held:
+// every lent input and every guard byte, what a refusal may change, the answer part, what other entries say about the
+// same input, and for a case that is not too long the whole answer of the reference.
+
+#include "call.h"
+#include "tame.h"
+
+using namespace fuzzing;
+
+namespace {
+
+constexpr uint32_t clause_ceiling = 65535, literal_ceiling = 1000000;
+constexpr uint32_t most_clauses = 65534, most_literals = 999999;
+// Conversions of more steps are asked with a short buffer, and longer tables are not asked of the reference.
+constexpr uint64_t most_steps = 20000000;
+constexpr size_t longest_asked_table = 512, longest_asked_output = 100000;
+
+// A formula as it is lent.
+struct Formula {
+    uint32_t options;
+    Bytes table, set;
+
+    size_t nodes() const { return table.size() / node_length; }
+    bool is_asked() const { return table.size() <= longest_asked_table; }
+};
+
+Formula formula_of(const Case &from)
+{
+    Formula formula{from.number(), from.first(), from.second()};
+    if (from.tames_first())
+        formula.table = tamed_table(formula.table, formula.options);
+    // A set can be tamed where the table is right.
+    uint8_t part[SIMBOLUFA_ANSWER_LENGTH];
+    bool right = simbolufa_check(formula.table.data(), formula.table.size(), formula.options, part, sizeof part) == 0;
+    if (from.tames_second() && right)
+        formula.set = tamed_set(formula.set, formula.table);
+    return formula;
+}
+
+Said check(const Case &from, const Formula &formula)
+{
+    Call call(from, "check");
+    call.number(formula.options);
+    Lent &table = call.input(formula.table);
+    Lent &answer = call.answer_part(from.answer_length());
+    uint32_t result = simbolufa_check(table.data(), table.size(), formula.options, answer.data(), answer.size());
+    Said said = call.made(result, 0);
+    must(result <= 3 || result == 11, "check: no such refusal");
+    must(result != 3 || said.place < formula.nodes(), "check: a place outside the table");
+    call.ask_reference(result);
+    return said;
+}
+
+Said measure(const Case &from, const Formula &formula, size_t answer_length)
+{
+    Call call(from, "measure");
+    call.number(formula.options);
+    Lent &table = call.input(formula.table);
+    Lent &set = call.input(formula.set);
+    Lent &answer = call.answer_part(answer_length);
+    uint32_t result = simbolufa_measure(table.data(), table.size(), formula.options, set.data(), set.size(),
+                                        answer.data(), answer.size());
+    Said said = call.made(result, 0);
+    must(result <= 4 || result == 11, "measure: no such refusal");
+    must(said.first <= clause_ceiling && said.second <= literal_ceiling, "measure: a total above its ceiling");
+    must(said.first < clause_ceiling || said.second == literal_ceiling, "measure: a literal total that is not stated");
+    if (formula.is_asked())
+        call.ask_reference(result);
+    return said;
+}
+
+// Chooses, and gives the set where one was chosen.
+Bytes choose(const Case &from, const Formula &formula, size_t set_length, size_t answer_length)
+{
+    Call call(from, "choose");
+    call.number(formula.options);
+    call.number(from.allowance());
+    Lent &table = call.input(formula.table);
+    Lent &set = call.output(set_length);
+    Lent &answer = call.answer_part(answer_length);
+    uint32_t result = simbolufa_choose(table.data(), table.size(), formula.options, from.allowance(), set.data(),
+                                       set.size(), answer.data(), answer.size());
+    Said said = call.made(result, set.size());
+    must(result <= 4 || result == 11, "choose: no such refusal");
+    if (formula.is_asked())
+        call.ask_reference(result);
+    if (result != 0)
+        return {};
+    Bytes chosen = set.now();
+    size_t picks = std::count(chosen.begin(), chosen.end(), 1);
+    must(picks + std::count(chosen.begin(), chosen.end(), 0) == chosen.size(), "choose: a byte that is not 0 or 1");
+    must(picks == said.first && picks <= from.allowance(), "choose: other picks");
+    Said total = measure(from, {formula.options, formula.table, chosen}, SIMBOLUFA_ANSWER_LENGTH);
+    must(total.number == 0 && total.first == said.second, "choose: another total than the set's");
+    return chosen;
+}
+
+// Converts, and gives the clause bytes where there are any. `variables` gets the variables.
+Bytes convert(const Case &from, const Formula &formula, size_t answer_length, uint32_t &variables)
+{
+    Said totals = measure(from, formula, SIMBOLUFA_ANSWER_LENGTH);
+    uint64_t needed = 4 * (uint64_t(totals.first) + totals.second);
+    bool is_short = (uint64_t(totals.first) + totals.second) * formula.nodes() > most_steps;
+    bool below = totals.first < clause_ceiling && totals.second < literal_ceiling;
+    Call call(from, "convert");
+    call.number(formula.options);
+    Lent &table = call.input(formula.table);
+    Lent &set = call.input(formula.set);
+    Lent &out = call.output(is_short || !below ? 8 : from.room(needed));
+    Lent &answer = call.answer_part(answer_length);
+    uint32_t result = simbolufa_convert(table.data(), table.size(), formula.options, set.data(), set.size(),
+                                        out.data(), out.size(), answer.data(), answer.size());
+    Said said = call.made(result, needed);
+    uint32_t expected = answer.size() != SIMBOLUFA_ANSWER_LENGTH   ? 11
+                        : totals.number != 0                       ? totals.number
+                        : totals.first == clause_ceiling           ? 5
+                        : totals.second == literal_ceiling         ? 6
+                        : out.size() < needed                      ? 7
+                                                                   : 0;
+    must(result == expected, "convert: another number than the totals and the room say");
+    if (formula.is_asked() && out.size() <= longest_asked_output)
+        call.ask_reference(result);
+    if (result != 0)
+        return {};
+    Bytes clauses = out.now();
+    clauses.resize(needed);
+    uint32_t zeros = 0;
+    for (size_t at = 0; at < clauses.size(); at += 4)
+        zeros += number_at(clauses, at) == 0;
+    must(zeros == totals.first && said.second == zeros, "convert: another clause total than that of the clauses");
+    uint32_t helpers = std::count(formula.set.begin(), formula.set.end(), 1);
+    must(said.first == formula.options + helpers, "convert: other variables");
+    variables = said.first;
+    return clauses;
+}
+
+// The text of clause bytes as the rules write it, or none where they are refused.
+bool text_of(const Bytes &clauses, uint32_t variables, std::string &text)
+{
+    uint32_t zeros = 0, literals = 0;
+    if (clauses.size() % 4 != 0 || variables > most_variables)
+        return false;
+    for (size_t at = 0; at < clauses.size(); at += 4) {
+        int64_t number = static_cast<int32_t>(number_at(clauses, at));
+        zeros += number == 0, literals += number != 0;
+        if (std::abs(number) > int64_t(variables))
+            return false;
+        text += number == 0 ? "0\n" : std::to_string(number) + " ";
+    }
+    text = "p cnf " + std::to_string(variables) + " " + std::to_string(zeros) + "\n" + text;
+    bool closed = clauses.empty() || number_at(clauses, clauses.size() - 4) == 0;
+    return closed && zeros <= most_clauses && literals <= most_literals;
+}
+
+Said read_dimacs(const Case &from, const Bytes &bytes, size_t room, size_t answer_length, Bytes &clauses);
+
+// Writes, and reads what was written.
+void write_dimacs(const Case &from, const Bytes &bytes, uint32_t variables, size_t answer_length)
+{
+    std::string expected;
+    bool right = text_of(bytes, variables, expected);
+    Call call(from, "write_dimacs");
+    call.number(variables);
+    Lent &clauses = call.input(bytes);
+    Lent &text = call.output(from.room(right ? expected.size() : 64));
+    Lent &answer = call.answer_part(answer_length);
+    uint32_t result = simbolufa_write_dimacs(clauses.data(), clauses.size(), variables, text.data(), text.size(),
+                                             answer.data(), answer.size());
+    Said said = call.made(result, expected.size());
+    uint32_t number = answer.size() != SIMBOLUFA_ANSWER_LENGTH ? 11
+                      : !right                                 ? 9
+                      : text.size() < expected.size()          ? 7
+                                                               : 0;
+    must(result == number, "write_dimacs: another number");
+    if (bytes.size() <= longest_asked_output)
+        call.ask_reference(result);
+    if (result != 0)
+        return;
+    must(std::equal(expected.begin(), expected.end(), text.data()), "write_dimacs: another text");
+    Bytes again;
+    Bytes lent(expected.begin(), expected.end());
+    Said back = read_dimacs(from, lent, bytes.size(), SIMBOLUFA_ANSWER_LENGTH, again);
+    must(back.number == 0 && again == bytes, "what was written does not come back");
+    must(back.first == said.first && back.second == said.second, "its variables and clauses do not come back");
+}
+
+// Reads a text. `clauses` gets the clause bytes where it is accepted.
+Said read_dimacs(const Case &from, const Bytes &bytes, size_t room, size_t answer_length, Bytes &clauses)
+{
+    Call call(from, "read_dimacs");
+    Lent &text = call.input(bytes);
+    Lent &out = call.output(room);
+    Lent &answer = call.answer_part(answer_length);
+    uint32_t result =
+        simbolufa_read_dimacs(text.data(), text.size(), out.data(), out.size(), answer.data(), answer.size());
+    Bytes now = out.now(), part = answer.now();
+    bool is_accepted = result == 0 && part.size() == SIMBOLUFA_ANSWER_LENGTH;
+    // The bytes of an accepted text's clauses end with the last of the zeros that it declares.
+    uint32_t declared = is_accepted ? number_at(part, 12) : 0;
+    size_t written = 0;
+    for (uint32_t closed = 0; closed < declared && written + 4 <= now.size(); written += 4)
+        closed += number_at(now, written) == 0;
+    Said said = call.made(result, written);
+    must(result == 0 || result == 7 || result == 8 || result == 11, "read_dimacs: no such refusal");
+    must(said.place <= bytes.size(), "read_dimacs: a place after the text");
+    if (bytes.size() <= longest_asked_output)
+        call.ask_reference(result);
+    now.resize(written);
+    clauses = now;
+    return said;
+}
+
+// Reads a text of the fuzzer. What is accepted is written and read again, and a refusal's place is held.
+void read_any(const Case &from)
+{
+    Bytes text = from.first(), clauses, again;
+    size_t room = from.has_exact_room() ? 2 * text.size() : from.room(0);
+    Said said = read_dimacs(from, text, room, from.answer_length(), clauses);
+    if (said.number == 0)
+        write_dimacs(from, clauses, said.first, SIMBOLUFA_ANSWER_LENGTH);
+    if (said.number != 8)
+        return;
+    // What stands before the place begins some accepted text, and with one byte more it does not.
+    for (size_t length = said.place; length <= std::min<size_t>(text.size(), said.place + size_t(1)); length++) {
+        Bytes front(text.begin(), text.begin() + length);
+        Said other = read_dimacs(from, front, 0, SIMBOLUFA_ANSWER_LENGTH, again);
+        bool is_cut = length == said.place && (other.number == 0 || other.number == 7);
+        must(is_cut || (other.number == 8 && other.place == said.place), "read_dimacs: another place for a beginning");
+    }
+}
+
+void write_any(const Case &from)
+{
+    Bytes clauses = from.first();
+    if (from.tames_first())
+        clauses = tamed_clauses(clauses, from.number());
+    write_dimacs(from, clauses, from.number(), from.answer_length());
+}
+
+// Chooses, converts under the chosen set, and writes the clauses.
+void whole(const Case &from)
+{
+    Formula formula = formula_of(from);
+    formula.set = choose(from, formula, formula.nodes(), SIMBOLUFA_ANSWER_LENGTH);
+    uint32_t variables = 0;
+    Bytes clauses = convert(from, formula, SIMBOLUFA_ANSWER_LENGTH, variables);
+    if (!clauses.empty() && clauses.size() <= longest_asked_output)
+        write_dimacs(from, clauses, variables, SIMBOLUFA_ANSWER_LENGTH);
+}
+
+} // namespace
+
+extern "C" int LLVMFuzzerTestOneInput(const uint8_t *data, size_t size)
+{
+    Case from(data, size);
+    uint32_t variables = 0;
+    switch (from.entry() % 7) {
+    case 0:
+        check(from, formula_of(from));
+        break;
+    case 1:
+        measure(from, formula_of(from), from.answer_length());
+        break;
+    case 2: {
+        Formula formula = formula_of(from);
+        choose(from, formula, from.room(formula.nodes()), from.answer_length());
+        break;
+    }
+    case 3:
+        convert(from, formula_of(from), from.answer_length(), variables);
+        break;
+    case 4:
+        write_any(from);
+        break;
+    case 5:
+        read_any(from);
+        break;
+    default:
+        whole(from);
+    }
+    return 0;
+}
