@@ -3,7 +3,7 @@
 use mathlib.Core.Bool.{cond}
 use mathlib.Core.List.{List, [], _∷_, _++_}
 use mathlib.Core.Path.{_≡_}
-use Prim.Native.Nat.{ℕ}
+use Prim.Native.Nat.{ℕ, _≤_}
 use lib.Dec.{leb}
 use lib.ListN.{length, replicate}
 use Rattle.laws.specs.Caps.{cap}
@@ -71,7 +71,8 @@ printed text =
     cond (refuses (fileChecked text)) (refusalLine (fileChecked text))
     (tablePrinted (fileTable text) (optionCount (lineOf text 0)))
 
--- bytes at the start of a buffer, and how many they are; the rest stays
+-- bytes at the start of a buffer that has room for them, and how many they are; the rest stays
 pub record Shows (bytes before : List ℕ) (count : ℕ) (after : List ℕ) : Type 0 where
   pub number : count ≡ length bytes
+  pub within : count ≤ length after
   pub output : after ≡ splice before 0 bytes

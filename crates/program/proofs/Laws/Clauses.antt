@@ -3,10 +3,11 @@
 use mathlib.Core.Path.{_≡_, refl, sym, ap, _∙_, subst}
 use mathlib.Core.Bool.{Bool, true, false, cond}
 use mathlib.Core.List.{List, _++_}
-use Prim.Native.Nat.{ℕ, _+_}
+use Prim.Native.Nat.{ℕ, _+_, _≤_}
 use native.Mathlib.Omega.{arith}
 use lib.Dec.{T, leb}
-use lib.ListN.{length, drop}
+use lib.ListN.{length, drop, length-append}
+use borrow.Author.Tests.{leb-true}
 use Rattle.laws.specs.Splices.{splice}
 use Rattle.answer.specs.Numbers.{refuses}
 use Rattle.answer.specs.Part.{Wrote}
@@ -43,6 +44,15 @@ module _ (bytes : List ℕ) (v : ℕ) (before : List ℕ) (size : length before 
       go true c e r = (ap (λ (w : Wrote). refusalLine (w .answer)) (sym e), ap (λ (w : Wrote). w .output) (sym e))
       go false true e r = absurd (subst T (sym r ∙ ap (λ (w : Wrote). refuses (w .answer)) e) tt)
       go false false e r = (ap (λ (w : Wrote). refusalLine (w .answer)) (sym e), ap (λ (w : Wrote). w .output) (sym e))
+
+  -- a text that is written fits
+  pub write-fits : (a : Answer) (o : List ℕ) → record { answer = a; output = o } ≡ writeCall bytes v before → refuses a ≡ false → textLength bytes v ≤ length o
+  write-fits a o e r = go (wrongBytes bytes v) (leb (length text) (length before)) refl e r
+    where
+      go : (b c : Bool) → leb (length text) (length before) ≡ c → record { answer = a; output = o } ≡ call b c → refuses a ≡ false → cond b 0 (length text) ≤ length o
+      go true c p e r = omega arith
+      go false true p e r = omega (arith, leb-true (length text) (length before) p, ap (λ (w : Wrote). length (w .output)) e, length-append text (drop (length text) before))
+      go false false p e r = absurd (subst T (sym (ap (λ (w : Wrote). refuses (w .answer)) e) ∙ r) tt)
 
   -- acceptance: the text, and its length
   pub write-accepted : (a : Answer) (o : List ℕ) → record { answer = a; output = o } ≡ writeCall bytes v before → refuses a ≡ false

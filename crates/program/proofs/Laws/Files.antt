@@ -1,52 +1,29 @@
 -- Printing a node file: what reading it answers.
 -- Assumes nothing.
 use mathlib.Core.Path.{_≡_, refl, sym, ap, _∙_, subst}
-use mathlib.Core.Bool.{Bool, true, false, cond, _&&_}
-use mathlib.Core.List.{List, []}
-use Prim.Native.Nat.{ℕ, zero, suc, _+_, _-_, _*_, _<_, _≤_}
+use mathlib.Core.Bool.{Bool, true, false, cond}
+use mathlib.Core.List.{List}
+use Prim.Native.Nat.{ℕ, _+_, _*_, _≤_}
 use native.Mathlib.Omega.{arith}
-use lib.Dec.{T, eqb, leb, ltb}
+use lib.Dec.{T, leb, ltb}
 use lib.ListN.{length, take}
-use borrow.Author.Tests.{eqb-true, ltb-true, le-leb}
+use borrow.Author.Tests.{le-leb}
 use Rattle.laws.specs.Splices.{splice}
-use Rattle.laws.proofs.First.{first-before}
 use Rattle.laws.proofs.Splices.{length-splice}
 use Rattle.answer.specs.Numbers.{toldOf, refuses}
 use Rattle.answer.specs.Part.{Wrote, afterwards}
 use Rattle.answer.specs.declared.Answer.{Answer}
 use Rattle.answer.specs.declared.Answer.the-variants.{Accepted, Room, Line}
 use Rattle.formula.specs.Limits.{nodeBytes, mostNodes}
-use Rattle.nodefile.specs.Files.{lineCount, lineOf, lineRight, firstWrong, fileRight, fileNodes, fileTable, fileChecked, fileStored, fileRead}
+use Rattle.nodefile.specs.Files.{lineOf, firstWrong, fileRight, fileNodes, fileTable, fileChecked, fileStored, fileRead}
 use Rattle.nodefile.specs.Limits.{mostBytes}
-use Rattle.nodefile.specs.Lines.{optionCount, nodeLine}
+use Rattle.nodefile.specs.Lines.{optionCount}
 use Rattle.nodefile.proofs.Laws.Files.{length-records}
+use Rattle.nodefile.proofs.Laws.Fits.{few-nodes, table-fits}
 use Rattle.nodefile.proofs.Laws.Stored.{taken-again}
 use Rattle.program.specs.Printed.{refusalLine, tablePrinted, printed}
 
-left-true : (a b : Bool) → (a && b) ≡ true → a ≡ true
-left-true true b e = refl
-left-true false b e = absurd (subst T (sym e) tt)
-
-right-true : (a b : Bool) → (a && b) ≡ true → b ≡ true
-right-true true b e = e
-right-true false b e = absurd (subst T (sym e) tt)
-
 module _ (text : List ℕ) where
-  -- a right file has at most 1,024 nodes
-  few : fileRight text ≡ true → fileNodes text ≤ mostNodes
-  few r = go (lineCount text) refl
-    where
-      whole : firstWrong text ≡ lineCount text
-      whole = eqb-true _ _ (left-true _ _ (right-true (ltb 0 (lineCount text)) _ r))
-
-      go : (n : ℕ) → lineCount text ≡ n → n - 1 ≤ mostNodes
-      go zero e = omega arith
-      go (suc zero) e = omega arith
-      go (suc (suc i)) e =
-          let line : lineRight text (suc i) ≡ true = first-before (lineRight text) (lineCount text) (suc i) (omega (arith, whole)) in
-          let below : i < mostNodes = ltb-true i mostNodes (left-true (ltb i mostNodes) (nodeLine i (lineOf text (suc i))) line) in
-          omega arith
-
   -- a file that is not refused is right
   told : refuses (fileChecked text) ≡ false → (fileRight text ≡ true) × (fileChecked text ≡ Accepted (optionCount (lineOf text 0)) (fileNodes text))
   told r = go (ltb mostBytes (length text)) (fileRight text) refl refl r
@@ -61,7 +38,7 @@ module _ (text : List ℕ) where
   module _ (before : List ℕ) (size : length before ≡ nodeBytes * mostNodes) where
     -- its table has room
     room : refuses (fileChecked text) ≡ false → length (fileTable text) ≤ length before
-    room r = omega (arith, length-records text (fileNodes text), few (told r .0))
+    room r = omega (arith, table-fits text (told r .0))
 
     stored : refuses (fileChecked text) ≡ false → fileStored text before ≡ record { answer = fileChecked text; output = splice before 0 (fileTable text) }
     stored r =
@@ -97,7 +74,7 @@ module _ (text : List ℕ) where
         nodes = ap (λ (x : Answer). toldOf x .second) (answered ∙ told right .1)
 
         pub read-few : toldOf a .second ≤ mostNodes
-        read-few = omega (arith, nodes, few (told right .0))
+        read-few = omega (arith, nodes, few-nodes text (told right .0))
 
         pub read-size : length o ≡ nodeBytes * mostNodes
         read-size = ap length out ∙ length-splice before 0 (fileTable text) (omega (arith, room right)) ∙ size

@@ -9,14 +9,19 @@ use lib.ListN.{length, length-append}
 use Rattle.laws.specs.Decimals.{decimal}
 use Rattle.laws.proofs.Decimals.{length-decimal-le}
 use Rattle.dimacs.specs.Written.{Wrote}
+use Rattle.dimacs.proofs.Laws.Writing.{wrote-length}
 use Rattle.program.specs.Printed.{field, Shows}
 
 -- other bytes that are the same, in a buffer that is the same
 pub shows-same : (xs ys before was after : List ℕ) (count : ℕ) → xs ≡ ys → before ≡ was → Shows ys was count after → Shows xs before count after
 shows-same xs ys before was after count e f s = subst⁻¹ (λ (z : List ℕ). Shows z before count after) e (subst⁻¹ (λ (z : List ℕ). Shows ys z count after) f s)
 
-pub shows-wrote : (xs before after : List ℕ) (count : ℕ) → Wrote before 0 xs after count → Shows xs before count after
-shows-wrote xs before after count w = record { number = omega (arith, w .place); output = w .list }
+pub shows-wrote : (xs before after : List ℕ) (count : ℕ) → 0 + length xs ≤ length before → Wrote before 0 xs after count → Shows xs before count after
+shows-wrote xs before after count room w = record {
+  number = omega (arith, w .place);
+  within = omega (arith, w .place, wrote-length room w);
+  output = w .list;
+}
 
 pub wrote-as : (xs ys before after : List ℕ) (at next : ℕ) → xs ≡ ys → Wrote before at ys after next → Wrote before at xs after next
 wrote-as xs ys before after at next e w = subst⁻¹ (λ (z : List ℕ). Wrote before at z after next) e w

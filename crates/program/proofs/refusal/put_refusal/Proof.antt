@@ -60,7 +60,7 @@ returns c =
     let last = ap (λ (n : ℕ). field n 10) (shown .shown .ensures) in
     shows-same (refusalLine (s .args .answer)) (refusedName ++ (first p ++ second p)) _ _ _ _
     (ap (λ (x : Told). refusedName ++ (field (x .number) 9 ++ field (cap mostShown (x .place)) 10)) (sym e)) refl
-    (shows-wrote _ _ _ _
+    (shows-wrote _ _ _ _ (room p)
     (wrote-both (s .args .out .now) 0 refusedName (first p ++ second p) (room p) (started p)
     (wrote-both (p .put-name .last .0) 8 (first p) (second p) (rest p) (q .put-field .ensures) (wrote-as _ _ _ _ _ _ (sym last) (r .put-field2 .ensures)))))
 
