@@ -36,13 +36,11 @@ pub fn write<'a>(
         sign: false,
         k: 0,
     }; 16];
-    later[0] = way;
-    let mut waiting = 1;
+    let mut waiting = 0;
+    let mut here = way;
     let mut first = own;
     let mut next = at;
-    while waiting > 0 {
-        waiting -= 1;
-        let here = later[waiting];
+    loop {
         let step = lead(
             table,
             helpers,
@@ -55,21 +53,30 @@ pub fn write<'a>(
         );
         first = false;
         match step {
-            Step::Nothing => {}
+            Step::Nothing => {
+                if waiting == 0 {
+                    return next;
+                }
+                waiting -= 1;
+                here = later[waiting];
+            }
             Step::Literal(word) => {
                 put(out, next, word);
                 next += 4;
+                if waiting == 0 {
+                    return next;
+                }
+                waiting -= 1;
+                here = later[waiting];
             }
             Step::One(child) => {
-                later[waiting] = child;
-                waiting += 1;
+                here = child;
             }
             Step::Two(left, right) => {
-                later[waiting] = right;
-                waiting += 1;
                 if waiting < MOST_WAITING {
-                    later[waiting] = left;
+                    later[waiting] = right;
                     waiting += 1;
+                    here = left;
                 } else {
                     next = write(
                         table,
@@ -85,9 +92,9 @@ pub fn write<'a>(
                         out,
                         next,
                     );
+                    here = right;
                 }
             }
         }
     }
-    next
 }
