@@ -12,7 +12,8 @@ returns c =
     let second = c .before in
     let first = second .before in
     let node = first .before in
-    let args = node .before .before .before .before .before .args in
+    let toward-args = node .before .before .before .before in
+    let args = toward-args .before .args in
     c .pair-by .ensures
     ∙ (λ i. rowBy counted (node .node-at .result .kind) (node .node-at .result .a) (first .child .ensures i) (second .child2 .ensures i))
     ∙ ap (λ (m : Node). pairNext m (args .set .now) (args .p .now) (args .n .now) (args .i)) (node .node-at .ensures)

@@ -16,7 +16,8 @@ length-wrong c =
 
 asked : tie.Need-pass-requires
 asked c κs =
-    let clear = c .before .before .before .before .before in
+    let toward-clear = c .before .before .before .before in
+    let clear = toward-clear .before in
     let if1 = clear .before .before in
     let start = if1 .before .before .before in
     let t = start .args .table .now in
@@ -25,7 +26,8 @@ asked c κs =
 chosen : tie.Need-returns-2
 chosen c =
     let pass = c .before .before in
-    let clear = pass .before .before .before .before .before .before in
+    let toward-clear = pass .before .before .before .before in
+    let clear = toward-clear .before .before in
     let if1 = clear .before .before in
     let start = if1 .before .before .before in
     let t = start .args .table .now in

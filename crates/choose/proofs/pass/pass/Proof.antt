@@ -24,7 +24,8 @@ abbrev μ-loop : tie.MeasureT-loop
 
 recount-requires : tie.Need-recount-requires Inv-loop μ-loop
 recount-requires c κs =
-    let start = c .before .before .before .before .before .before in
+    let toward-start = c .before .before .before .before in
+    let start = toward-start .before .before in
     (start .pre .0 .most, (ready-start (start .args .set .now) (nodesOf (start .args .table .now)), omega arith))
 
 slice-aggregate-clause-total : tie.Need-slice-aggregate-clause-total Inv-loop μ-loop
@@ -36,13 +37,15 @@ slice-aggregate-clause-total-2 c = sym (c .before .before .before .recount .ensu
 clause-total-requires : tie.Need-clause-total-requires Inv-loop μ-loop
 clause-total-requires c κs =
     let recount = c .before .before .before in
-    let start = recount .before .before .before .before .before .before .before in
+    let toward-start = recount .before .before .before .before in
+    let start = toward-start .before .before .before in
     (start .pre .0, (start .pre .1 .1 .0, recount .recount .ensures))
 
 loop-holds : tie.Need-loop-holds Inv-loop μ-loop
 loop-holds c =
     let recount = c .before .before .before .before in
-    let start = recount .before .before .before .before .before .before .before in
+    let toward-start = recount .before .before .before .before in
+    let start = toward-start .before .before .before in
     let t = start .args .table .now in
     let ns = nodesOf t in
     let p = recount .recount .last .1 .1 .1 .0 in
@@ -59,8 +62,10 @@ loop-holds c =
 visit-requires : tie.Need-visit-requires Inv-loop μ-loop
 visit-requires c κs =
     let loop = c .before .before .before .before in
-    let recount = loop .before .before .before .before .before in
-    let start = recount .before .before .before .before .before .before .before in
+    let toward-recount = loop .before .before .before .before in
+    let recount = toward-recount .before in
+    let toward-start = recount .before .before .before .before in
+    let start = toward-start .before .before .before in
     let t = start .args .table .now in
     let g = loop .loop .inv .1 in
     let k : loop .loop .i ≡ loop .loop .i - 1 + 1 = omega arith in (
@@ -83,9 +88,12 @@ visit-requires c κs =
 loop-again : tie.Need-loop-again Inv-loop μ-loop
 loop-again c =
     let visit = c .before .before in
-    let loop = visit .before .before .before .before .before in
-    let recount = loop .before .before .before .before .before in
-    let start = recount .before .before .before .before .before .before .before in
+    let toward-loop = visit .before .before .before .before in
+    let loop = toward-loop .before in
+    let toward-recount = loop .before .before .before .before in
+    let recount = toward-recount .before in
+    let toward-start = recount .before .before .before .before in
+    let start = toward-start .before .before .before in
     let ns = nodesOf (start .args .table .now) in (
       omega arith,
       passing-step (start .args .allowance) ns (loop .loop .i) (loop .loop .picked .picks) (visit .visit .result .picks) (loop .loop .picked .total) (visit .visit .result .total)
@@ -95,16 +103,20 @@ loop-again c =
 same-length : tie.Need-same-length Inv-loop μ-loop
 same-length c =
     let loop = c .before in
-    let recount = loop .before .before .before .before .before in
-    let start = recount .before .before .before .before .before .before .before in
+    let toward-recount = loop .before .before .before .before in
+    let recount = toward-recount .before in
+    let toward-start = recount .before .before .before .before in
+    let start = toward-start .before .before .before in
     let ns = nodesOf (start .args .table .now) in
     loop .loop .inv .1 .stands .size ∙ sym (ap length (start .pre .1 .1 .1) ∙ length-replicate {A = ℕ} (length ns) 0)
 
 returns : tie.Need-returns Inv-loop μ-loop
 returns c =
     let loop = c .before in
-    let recount = loop .before .before .before .before .before in
-    let start = recount .before .before .before .before .before .before .before in
+    let toward-recount = loop .before .before .before .before in
+    let recount = toward-recount .before in
+    let toward-start = recount .before .before .before .before in
+    let start = toward-start .before .before .before in
     let ns = nodesOf (start .args .table .now) in
     let e : loop .loop .i ≡ 0 = omega arith in
     passing-end (start .args .allowance) ns (loop .loop .picked .picks) (loop .loop .picked .total) (loop .loop .set) (loop .loop .p) (loop .loop .n)

@@ -27,7 +27,8 @@ abbrev μ-loop : tie.MeasureT-loop
 loop-holds : tie.Need-loop-holds Inv-loop μ-loop
 loop-holds c =
     let entry = c .before in
-    let start = entry .before .before .before .before .before .before in
+    let toward-start = entry .before .before .before .before in
+    let start = toward-start .before .before in
     let s = start .args .set .now in
     let t = start .args .table .now in
     let ns = nodesOf t in
@@ -42,7 +43,8 @@ loop-again : tie.Need-loop-again Inv-loop μ-loop
 loop-again c =
     let loop = c .before .before in
     let entry = loop .before .before in
-    let start = entry .before .before .before .before .before .before in
+    let toward-start = entry .before .before .before .before in
+    let start = toward-start .before .before in
     let s = start .args .set .now in
     let ns = nodesOf (start .args .table .now) in
     let i = loop .loop .i in
@@ -57,7 +59,8 @@ loop-again c =
 returns : tie.Need-returns Inv-loop μ-loop
 returns c =
     let loop = c .before in
-    let start = loop .before .before .before .before .before .before .before .before in
+    let toward-start = loop .before .before .before .before in
+    let start = toward-start .before .before .before .before in
     let t = start .args .table .now in
     let e : loop .loop .i ≡ length (nodesOf t) = omega (arith, length-nodesOf t) in
     loop .loop .inv .1 ∙ ap (wholeTo counted 0 (start .args .set .now) (nodesOf t)) e

@@ -16,7 +16,8 @@ defined c =
     let read = pair .before in
     let if1 = read .before in
     let renamed = if1 .before in
-    let args = renamed .before .before .before .before .before .args in
+    let toward-args = renamed .before .before .before .before in
+    let args = toward-args .before .args in
     rw (← renamed .is-renamed .ensures, not-false (renamed .is-renamed .result) (if1 .if1 .left))
     (c .with-definition .ensures ∙ (λ i. withDefinition counted 0 (read .read .ensures i) (pair .pair-at .ensures i) (args .sum)))
 

@@ -14,15 +14,18 @@ use Rattle.choose.proofs.visit.trial.Tie as tie
 
 asked : tie.Need-recount-requires
 asked c κs =
-    let start = c .before .before .before .before .before .before in
+    let toward-start = c .before .before .before .before in
+    let start = toward-start .before .before in
     let t = start .args .table .now in
     let later = start .pre .1 .1 .1 in
     (start .pre .0 .most, (ready-trial (nodesOf t) (start .pre .1 .0) (start .args .set .now) (start .args .i) _ _ (later .1 .1), omega arith))
 
 tried : tie.Need-returns
 tried c =
-    let recount = c .before .before .before .before .before .before in
-    let start = recount .before .before .before .before .before .before .before in
+    let toward-recount = c .before .before .before .before in
+    let recount = toward-recount .before .before in
+    let toward-start = recount .before .before .before .before in
+    let start = toward-start .before .before .before in
     let t = start .args .table .now in
     let s = set (start .args .set .now) (start .args .i) 1 in
     record {

@@ -20,7 +20,8 @@ used-up c =
 not-renamed : tie.Need-returns-2
 not-renamed c =
     let may = c .before in
-    let start = may .before .before .before .before .before in
+    let toward-start = may .before .before .before .before in
+    let start = toward-start .before in
     let a = start .args in
     not-allowed (a .allowance) (nodesOf (a .table .now)) (a .i) (a .picked .picks) (a .set .now) _ _ _
     (sym (may .may-rename .ensures) ∙ not-true (may .may-rename .result) (c .if2 .taken)) (start .pre .1 .1 .1 .1 .1)
@@ -28,7 +29,8 @@ not-renamed c =
 asked : tie.Need-trial-requires
 asked c κs =
     let may = c .before .before .before .before in
-    let start = may .before .before .before .before .before in
+    let toward-start = may .before .before .before .before in
+    let start = toward-start .before in
     let stands = start .pre .1 .1 .1 .1 .1 in
     (start .pre .0, (start .pre .1 .0, (start .pre .1 .1 .0, (start .pre .1 .1 .1 .0, (stands .size ∙ length-nodesOf (start .args .table .now), stands .ready)))))
 
@@ -37,7 +39,8 @@ lower c =
     let trial = c .before .before .before in
     let if2 = trial .before .before .before .before in
     let may = if2 .before in
-    let start = may .before .before .before .before .before in
+    let toward-start = may .before .before .before .before in
+    let start = toward-start .before in
     let a = start .args in
     let t = a .table .now in
     let inside : a .i < length (nodesOf t) = omega (arith, start .pre .1 .1 .1 .0, length-nodesOf t) in
@@ -48,7 +51,9 @@ lower c =
 still-inside : tie.Need-slice-write-set
 still-inside c =
     let trial = c .before .before .before in
-    let start = trial .before .before .before .before .before .before .before .before .before .before in
+    let toward-start = trial .before .before .before .before in
+    let further-start = toward-start .before .before .before .before in
+    let start = further-start .before .before in
     let stands = start .pre .1 .1 .1 .1 .1 in
     let t = start .args .table .now in
     omega (arith, ap length (trial .trial .ensures .in-set), length-set (start .args .set .now) (start .args .i) 1, stands .size, start .pre .1 .1 .1 .0, length-nodesOf t)
@@ -58,7 +63,8 @@ not-lower c =
     let trial = c .before .before .before in
     let if2 = trial .before .before .before .before in
     let may = if2 .before in
-    let start = may .before .before .before .before .before in
+    let toward-start = may .before .before .before .before in
+    let start = toward-start .before in
     let a = start .args in
     let t = a .table .now in
     let inside : a .i < length (nodesOf t) = omega (arith, start .pre .1 .1 .1 .0, length-nodesOf t) in

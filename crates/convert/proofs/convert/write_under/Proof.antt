@@ -82,7 +82,8 @@ due c κs =
 
 counted-again : tie.Need-variables-requires
 counted-again c κs =
-    let s = start (c .before .before .before .before .before .before) in
+    let toward-start = c .before .before .before .before in
+    let s = start (toward-start .before .before) in
     (s .pre .table .options, omega (arith, s .pre .table .right .most))
 
 written : tie.Need-returns-2

@@ -9,7 +9,9 @@ use Rattle.convert.proofs.step.in_joins.Tie as tie
 
 -- the first join's total
 total : (c : tie.After-product)
-    → c .product .result ≡ countIn (c .before .before .before .before .before .before .args .helpers .now) (c .before .before .before .before .before .before .args .p-clauses .now) (c .before .before .before .before .before .before .args .n-clauses .now) (c .before .before .before .before .before .before .args .x) * countIn (c .before .before .before .before .before .before .args .helpers .now) (c .before .before .before .before .before .before .args .p-clauses .now) (c .before .before .before .before .before .before .args .n-clauses .now) (c .before .before .before .before .before .before .args .y)
+    → let toward = c .before .before .before .before in let a = toward .before .before .args in
+    c .product .result
+    ≡ countIn (a .helpers .now) (a .p-clauses .now) (a .n-clauses .now) (a .x) * countIn (a .helpers .now) (a .p-clauses .now) (a .n-clauses .now) (a .y)
 total c = c .product .ensures ∙ (λ i. c .before .before .count .ensures i * c .before .count2 .ensures i)
 
 first : tie.Need-returns

@@ -3,6 +3,7 @@ use mathlib.Core.Path.{_≡_, refl, sym, ap, _∙_, subst⁻¹}
 use mathlib.Core.Bool.{Bool, cond}
 use Prim.Native.Nat.{ℕ}
 use native.Mathlib.Omega.{arith}
+use lib.ListN.{getD}
 use borrow.Author.Needs.{needs}
 use borrow.Author.Tests.{eq-eqb, ne-eqb}
 use Rattle.formula.specs.declared.node.Node.{Node}
@@ -14,7 +15,8 @@ use Rattle.convert.proofs.step.lead.Statement.{statement}
 use Rattle.convert.proofs.step.lead.Tie as tie
 
 -- the helper that was looked at
-helper-is : (c : tie.After-pick-helper) → c .pick-helper .result ≡ cond (c .before .before .before .before .before .before .before .before .args .own) 0 (lib.ListN.getD (c .before .before .before .before .before .before .before .before .args .helpers .now) (c .before .before .before .before .before .before .before .before .args .way .node) 0)
+helper-is : (c : tie.After-pick-helper) → let toward = c .before .before .before .before in let a = toward .before .before .before .before .args in
+    c .pick-helper .result ≡ cond (a .own) 0 (getD (a .helpers .now) (a .way .node) 0)
 helper-is c =
     let back = c .before .before .before .before in
     let start = back .before .before .before .before in
@@ -26,7 +28,8 @@ helper-literal c =
     rw (← helper-is (if1 .before), ne-eqb _ 0 (if1 .if1 .taken)) (ap Literal (c .word .ensures))
 
 -- the literal total that was looked at
-literals-are : (c : tie.After-literals) → c .literals .result ≡ cond (c .before .before .before .before .before .before .before .before .before .before .before .args .way .sign) (lib.ListN.getD (c .before .before .before .before .before .before .before .before .before .before .before .args .p-literals .now) (c .before .before .before .before .before .before .before .before .before .before .before .args .way .node) 0) (lib.ListN.getD (c .before .before .before .before .before .before .before .before .before .before .before .args .n-literals .now) (c .before .before .before .before .before .before .before .before .before .before .before .args .way .node) 0)
+literals-are : (c : tie.After-literals) → let toward = c .before .before .before .before in let further = toward .before .before .before .before in let a = further .before .before .before .args in
+    c .literals .result ≡ cond (a .way .sign) (getD (a .p-literals .now) (a .way .node) 0) (getD (a .n-literals .now) (a .way .node) 0)
 literals-are c =
     let back = c .before .before .before .before in
     let further = back .before .before .before .before in

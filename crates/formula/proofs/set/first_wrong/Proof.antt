@@ -22,7 +22,8 @@ abbrev μ-loop : tie.MeasureT-loop
 
 asked : tie.Need-is-byte-right-requires Inv-loop μ-loop
 asked c κs =
-    let start = c .before .before .before .before .before in
+    let toward-start = c .before .before .before .before in
+    let start = toward-start .before in
     (start .pre .0, (start .pre .1 .0, (omega arith, omega arith)))
 
 wrong : tie.Need-returns Inv-loop μ-loop
@@ -39,7 +40,8 @@ right c =
 
 none : tie.Need-returns-2 Inv-loop μ-loop
 none c =
-    looking-end _ _ (c .before .loop .i) (c .before .loop .inv) (omega (arith, length-nodesOf (c .before .before .before .before .before .args .table .now)))
+    let loop = c .before in
+    looking-end _ _ (loop .loop .i) (loop .loop .inv) (omega (arith, length-nodesOf (loop .before .before .before .before .args .table .now)))
 
 pub first-wrong-spec : {M : Type 1} → statement M
 first-wrong-spec =

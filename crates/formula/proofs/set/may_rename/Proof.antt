@@ -18,14 +18,17 @@ use Rattle.formula.proofs.set.may_rename.Statement.{statement}
 use Rattle.formula.proofs.set.may_rename.Tie as tie
 
 -- what the first two tests look at
-operator-is : (c : tie.After-is-operator) → c .is-operator .result ≡ operator (nodeIn (nodesOf (c .before .before .before .before .args .table .now)) (c .before .before .before .before .args .i) .kind)
+operator-is : (c : tie.After-is-operator) → let x = c .before .before .before .before .args in
+    c .is-operator .result ≡ operator (nodeIn (nodesOf (x .table .now)) (x .i) .kind)
 operator-is c =
     let start = c .before .before .before .before in
     c .is-operator .ensures ∙ ap (λ (n : Node). operator (n .kind)) (c .before .node-at .ensures ∙ sym (nodeIn-nodesOf (start .args .table .now) (start .args .i) (start .pre .1 .1)))
 
-reached-is : (c : tie.After-is-reached) → c .is-reached .result ≡ reached (markOf (nodesOf (c .before .before .before .before .before .before .before .args .table .now)) (c .before .before .before .before .before .before .before .args .i))
+reached-is : (c : tie.After-is-reached) → let toward = c .before .before .before .before in let x = toward .before .before .before .args in
+    c .is-reached .result ≡ reached (markOf (nodesOf (x .table .now)) (x .i))
 reached-is c =
-    let start = c .before .before .before .before .before .before .before in
+    let toward-start = c .before .before .before .before in
+    let start = toward-start .before .before .before in
     let ns = nodesOf (start .args .table .now) in
     c .is-reached .ensures
     ∙ ap reached (c .before .read .ensures ∙ ap (λ l. heldAt l (start .args .i)) (start .pre .1 .0) ∙ heldAt-held (marksOf ns) (start .args .i))
@@ -41,7 +44,8 @@ not-reached c =
 root-or-not : tie.Need-returns-3
 root-or-not c =
     let if1 = c .before .before .before in
-    let start = if1 .before .before .before .before .before in
+    let toward-start = if1 .before .before .before .before in
+    let start = toward-start .before in
     rw (← operator-is (if1 .before), not-false (if1 .before .is-operator .result) (if1 .if1 .left), ← reached-is (c .before), not-false (c .before .is-reached .result) (c .if2 .left), length-nodesOf (start .args .table .now), add-one (start .args .i))
 
 pub may-rename-spec : {M : Type 1} → statement M

@@ -21,9 +21,11 @@ abbrev μ-loop : tie.MeasureT-loop
 
 -- the number that was tested is that of the record
 tested : (c : tie.After-fault Inv-loop μ-loop)
-    → c .fault .result ≡ faultOf (c .before .before .before .before .before .args .options) (c .before .before .before .loop .i) (nodeAt (c .before .before .before .before .before .args .table .now) (c .before .before .before .loop .i))
+    → let loop = c .before .before .before in let x = loop .before .before .args in
+    c .fault .result ≡ faultOf (x .options) (loop .loop .i) (nodeAt (x .table .now) (loop .loop .i))
 tested c =
-    let start = c .before .before .before .before .before in
+    let toward-start = c .before .before .before .before in
+    let start = toward-start .before in
     c .fault .ensures ∙ ap (λ (n : Node). faultOf (start .args .options) (c .before .before .before .loop .i) n) (c .before .node-at .ensures)
 
 wrong : tie.Need-returns Inv-loop μ-loop

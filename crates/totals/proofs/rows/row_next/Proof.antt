@@ -13,7 +13,8 @@ returns c =
     let second = c .before in
     let first = second .before in
     let node = first .before in
-    let start = node .before .before .before .before .before .before .before in
+    let toward-start = node .before .before .before .before in
+    let start = toward-start .before .before .before in
     c .row-by .ensures
     ∙ (λ i. rowBy capped (node .node-at .result .kind) (node .node-at .result .a) (first .child .ensures i) (second .child2 .ensures i))
     ∙ ap (λ (n : Node). rowNext n (start .args .set .now) (start .args .p-clauses .now) (start .args .p-literals .now) (start .args .n-clauses .now) (start .args .n-literals .now)) (node .node-at .ensures)

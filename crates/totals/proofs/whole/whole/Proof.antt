@@ -30,7 +30,8 @@ abbrev μ-loop : tie.MeasureT-loop
 loop-holds : tie.Need-loop-holds Inv-loop μ-loop
 loop-holds c =
     let root = c .before .before .before in
-    let start = root .before .before .before .before .before .before .before .before in
+    let toward-start = root .before .before .before .before in
+    let start = toward-start .before .before .before .before in
     let s = start .args .set .now in
     let ns = nodesOf (start .args .table .now) in
     let own : sized (root .row-at .result .p) ≡ rowOf capped 0 s ns (length ns - 1) .P =
@@ -42,7 +43,8 @@ loop-again : tie.Need-loop-again Inv-loop μ-loop
 loop-again c =
     let loop = c .before .before in
     let root = loop .before .before .before .before in
-    let start = root .before .before .before .before .before .before .before .before in
+    let toward-start = root .before .before .before .before in
+    let start = toward-start .before .before .before .before in
     let s = start .args .set .now in
     let ns = nodesOf (start .args .table .now) in
     let i = loop .loop .i in
@@ -58,14 +60,16 @@ add-i : tie.Need-add-i Inv-loop μ-loop
 add-i c =
     let loop = c .before .before in
     let root = loop .before .before .before .before in
-    let start = root .before .before .before .before .before .before .before .before in
+    let toward-start = root .before .before .before .before in
+    let start = toward-start .before .before .before .before in
     omega (arith, start .good .0 .0)
 
 returns : tie.Need-returns Inv-loop μ-loop
 returns c =
     let loop = c .before in
     let root = loop .before .before .before .before in
-    let start = root .before .before .before .before .before .before .before .before in
+    let toward-start = root .before .before .before .before in
+    let start = toward-start .before .before .before .before in
     let t = start .args .table .now in
     let e : loop .loop .i ≡ length (nodesOf t) = omega (arith, length-nodesOf t) in
     loop .loop .inv .1 ∙ ap (wholeTo capped 0 (start .args .set .now) (nodesOf t)) e

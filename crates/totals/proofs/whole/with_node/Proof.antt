@@ -17,7 +17,8 @@ defined c =
     let row = read .before in
     let if1 = row .before in
     let renamed = if1 .before in
-    let sum = renamed .before .before .before .before .before .before .before .args .sum in
+    let toward-sum = renamed .before .before .before .before in
+    let sum = toward-sum .before .before .before .args .sum in
     rw (← renamed .is-renamed .ensures, not-false (renamed .is-renamed .result) (if1 .if1 .left))
     (c .with-definition .ensures ∙ (λ i. withDefinition capped 0 (read .read .ensures i) (row .row-at .ensures i) (sized sum)))
 
