@@ -61,9 +61,9 @@
  *   A null pointer with length 0 is fine, and so is any alignment. No pointer is kept after the call.
  *   A call allocates nothing, keeps no state and always ends. It may run in several threads at once.
  *
- *   Deepest stack as measured once, x86-64: check, write_dimacs and read_dimacs 1 KiB, choose 11 KiB, measure
- *   34 KiB. simbolufa_convert takes 58 KiB, or for deep tables 432 bytes for each node that is nested in
- *   another: 474 KiB for 1,024 nested nodes. So convert from a thread with a stack of 512 KiB.
+ *   Deepest stack, measured on x86-64: check, write_dimacs and read_dimacs less than 1 KiB, choose 11 KiB,
+ *   measure 34 KiB, convert 58 KiB. For deep tables convert takes more, up to 93,728 bytes for 1,024
+ *   nested nodes. A stack of 128 KiB is enough for every entry.
  *
  *   A call checks its own input. It returns 0 or the number of a refusal. A refusal changes no lent
  *   byte outside the answer part.
@@ -121,7 +121,10 @@ enum simbolufa_number {
      * clauses or over 999,999 literals.
      */
     SIMBOLUFA_REFUSED_CLAUSE_BYTES = 9,
-    /* A line of the node file is wrong or missing. Only the program gives it. Place: the line, from 1. */
+    /*
+     * A line of the node file is wrong or missing. Only the program gives it. Place: the line, from 1,
+     * or 0 where the file is too long.
+     */
     SIMBOLUFA_REFUSED_NODE_FILE = 10,
     /* The answer part is not 16 bytes. Nothing is written. */
     SIMBOLUFA_REFUSED_ANSWER_LENGTH = 11
@@ -182,8 +185,9 @@ uint32_t simbolufa_convert(const uint8_t *table, size_t table_len, uint32_t opti
  * Writes clause bytes as DIMACS text. `variables` is the variable count that the header declares.
  *
  * Returns 0, 9, 7 or 11. On 0 the text is the first bytes of `text`, without a closing NUL, and the
- * bytes after it are not changed. The text's last byte is the newline after the last clause, or after
- * the header where there is no clause. The values of the answer part are the variables and the clauses.
+ * bytes after it are not changed. The values of the answer part are the variables and the clauses. The
+ * text's length is not reported: it ends with the newline after the last clause, or after the header
+ * where there is no clause. So it has one newline for the header and one for each clause.
  */
 uint32_t simbolufa_write_dimacs(const uint8_t *clauses, size_t clauses_len, uint32_t variables,
                                 uint8_t *text, size_t text_len, uint8_t *answer, size_t answer_len);
