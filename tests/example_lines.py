@@ -40,6 +40,16 @@ def pairs(found):
     )
 
 
+def nodes(found):
+    """The node file of an option count and a table."""
+    options, table = int(found[1]), bytes.fromhex(found[2])
+    lines = [f"options\t{options}\n"]
+    for at in range(0, len(table), 5):
+        a, b = (int.from_bytes(table[place : place + 2], "little") for place in (at + 1, at + 3))
+        lines.append(f"{at // 5}\t{table[at]}\t{a}\t{b}\n")
+    return "".join(lines).encode().hex()
+
+
 def lent(found):
     """A lent output that starts with the given bytes, as an answer shows it."""
     start = programs.from_parts(found[2])
@@ -53,6 +63,7 @@ MACROS = [
     (r"\{twice (\d+) (\d+) (\d+)\}", twice),
     (r"\{over (\d+) (\d+) (\d+) (\d+)\}", over),
     (r"\{pairs (\d+) (\d+) (\d+)\}", pairs),
+    (r"\{nodes (\d+) ([0-9a-f]*)\}", nodes),
     (r"\{lent (\d+) ([-0-9a-f+*]+)\}", lent),
 ]
 

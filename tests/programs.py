@@ -1,4 +1,4 @@
-"""The programs that the tests ask: the driver over the library, and the reference."""
+"""The programs that the tests ask: the driver over the library, the reference, and the command."""
 
 import itertools
 import pathlib
@@ -10,6 +10,7 @@ import entries
 TESTS = pathlib.Path(__file__).resolve().parent
 BUILT = TESTS.parent / "target" / "tests"
 ARCHIVE = TESTS.parent / "target" / "staticlib" / "libhost.a"
+COMMAND = TESTS.parent / "simbolufa"
 # Buffers over this length are shown by their hash.
 LONGEST_SHOWN = 4096
 # How many differences are printed.
