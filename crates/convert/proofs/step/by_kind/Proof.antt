@@ -4,10 +4,19 @@ use mathlib.Core.Bool.{true, false, not}
 use native.Mathlib.Omega.{arith}
 use borrow.Author.Needs.{needs}
 use Rattle.formula.specs.declared.node.Kind.{Kind}
-use Rattle.convert.specs.Steps.{side, stepBy, joinsStep}
+use Rattle.convert.specs.Steps.{side, stepBy, joinsStep, kindStep}
+use Rattle.convert.specs.declared.step.Step.{Step}
 use Rattle.convert.specs.declared.step.Step.the-variants.{Literal}
 use Rattle.convert.proofs.step.by_kind.Statement.{statement}
 use Rattle.convert.proofs.step.by_kind.Tie as tie
+
+-- a step of a kind, where the node is of that kind
+by : (s : tie.Start) (k : Kind) (step : Step) → s .args .node .kind ≡ k
+    → let a = s .args in step ≡ stepBy k (a .helpers .now) (a .p-clauses .now) (a .n-clauses .now) (a .node .a) (a .node .b) (a .sign) (a .k)
+    → step ≡ kindStep (a .helpers .now) (a .p-clauses .now) (a .n-clauses .now) (a .node) (a .sign) (a .k)
+by s k step e q =
+    let a = s .args in
+    q ∙ sym (ap (λ (x : Kind). stepBy x (a .helpers .now) (a .p-clauses .now) (a .n-clauses .now) (a .node .a) (a .node .b) (a .sign) (a .k)) e)
 
 symbol-fits : tie.Need-cast-word
 symbol-fits c =
@@ -23,33 +32,32 @@ symbol-some c κs =
 
 symbol-step : tie.Need-returns-3
 symbol-step c =
-    let back = c .before .before .before .before in
-    let a = back .before .before .args in
-    ap Literal (c .word .ensures) ∙ sym (ap (λ (k : Kind). stepBy k (a .helpers .now) (a .p-clauses .now) (a .n-clauses .now) (a .node .a) (a .node .b) (a .sign) (a .k)) (c .before .enum-told3 .given .1))
+    let told = c .before in
+    let back = told .before .before .before .before in
+    by (back .before) _ _ (told .enum-told3 .given .1) (ap Literal (c .word .ensures))
 
 not-step : tie.Need-returns-4
 not-step c =
     let back = c .before .before .before .before in
-    let a = back .before .args in
-    refl ∙ sym (ap (λ (k : Kind). stepBy k (a .helpers .now) (a .p-clauses .now) (a .n-clauses .now) (a .node .a) (a .node .b) (a .sign) (a .k)) (c .enum-told4 .given .1))
+    by (back .before) _ _ (c .enum-told4 .given .1) refl
 
 and-step : tie.Need-returns-5
 and-step c =
-    let back = c .before .before .before .before in
-    let a = back .before .before .args in
-    c .in-pair .ensures ∙ sym (ap (λ (k : Kind). stepBy k (a .helpers .now) (a .p-clauses .now) (a .n-clauses .now) (a .node .a) (a .node .b) (a .sign) (a .k)) (c .before .enum-told5 .given .1))
+    let told = c .before in
+    let back = told .before .before .before .before in
+    by (back .before) _ _ (told .enum-told5 .given .1) (c .in-pair .ensures)
 
 or-step : tie.Need-returns-6
 or-step c =
-    let back = c .before .before .before .before in
-    let a = back .before .before .args in
-    c .in-pair2 .ensures ∙ sym (ap (λ (k : Kind). stepBy k (a .helpers .now) (a .p-clauses .now) (a .n-clauses .now) (a .node .a) (a .node .b) (a .sign) (a .k)) (c .before .enum-told6 .given .1))
+    let told = c .before in
+    let back = told .before .before .before .before in
+    by (back .before) _ _ (told .enum-told6 .given .1) (c .in-pair2 .ensures)
 
 implies-step : tie.Need-returns-7
 implies-step c =
-    let back = c .before .before .before .before in
-    let a = back .before .before .args in
-    c .in-pair3 .ensures ∙ sym (ap (λ (k : Kind). stepBy k (a .helpers .now) (a .p-clauses .now) (a .n-clauses .now) (a .node .a) (a .node .b) (a .sign) (a .k)) (c .before .enum-told7 .given .1))
+    let told = c .before in
+    let back = told .before .before .before .before in
+    by (back .before) _ _ (told .enum-told7 .given .1) (c .in-pair3 .ensures)
 
 equivalent-step : tie.Need-returns-8
 equivalent-step c =
@@ -57,11 +65,12 @@ equivalent-step c =
     let first = second .before in
     let told = first .before in
     let back = told .before .before .before .before in
-    let a = back .before .args in
-    c .in-joins .ensures
+    let start = back .before in
+    let a = start .args in
+    by start _ _ (told .enum-told8 .given .1)
+    (c .in-joins .ensures
     ∙ (λ i. joinsStep (a .helpers .now) (a .p-clauses .now) (a .n-clauses .now) (side (a .node .a) false) (side (a .node .b) (a .sign))
-    (side (first .pick .ensures i) (not (a .sign))) (side (second .pick2 .ensures i) true) (a .k))
-    ∙ sym (ap (λ (k : Kind). stepBy k (a .helpers .now) (a .p-clauses .now) (a .n-clauses .now) (a .node .a) (a .node .b) (a .sign) (a .k)) (told .enum-told8 .given .1))
+    (side (first .pick .ensures i) (not (a .sign))) (side (second .pick2 .ensures i) true) (a .k)))
 
 pub by-kind-spec : {M : Type 1} → statement M
 by-kind-spec =
