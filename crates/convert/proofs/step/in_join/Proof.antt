@@ -1,6 +1,5 @@
 -- `convert::step::in_join` meets its contract: quotient and remainder by the right list's total. Assumes nothing.
-use mathlib.Core.Path.{_≡_, sym, ap, _∙_}
-use native.Mathlib.Omega.{arith}
+use mathlib.Core.Path.{_≡_, refl}
 use borrow.Author.Needs.{needs}
 use borrow.Author.Tests.{eq-eqb, ne-eqb}
 use Rattle.convert.specs.Steps.{countIn}
@@ -20,4 +19,4 @@ in-join-spec =
     (λ c. rw (← each (c .before), eq-eqb _ 0 (c .if1 .taken)))
     (λ c. search needs)
     (λ c. search needs)
-    (λ c. rw (← each (c .before), ne-eqb _ 0 (c .if1 .left))))
+    (λ c. rw (← each (c .before), ne-eqb _ 0 (c .if1 .left)) refl))
