@@ -80,6 +80,15 @@
 #include <stddef.h>
 #include <stdint.h>
 
+/*
+ * The version of this header, and of the library that is installed with it. CHANGELOG.md says what may change in which
+ * version.
+ */
+#define SIMBOLUFA_VERSION "1.0.0"
+#define SIMBOLUFA_VERSION_MAJOR 1
+#define SIMBOLUFA_VERSION_MINOR 0
+#define SIMBOLUFA_VERSION_PATCH 0
+
 #ifdef __cplusplus
 extern "C" {
 #endif
@@ -187,7 +196,8 @@ uint32_t simbolufa_convert(const uint8_t *table, size_t table_len, uint32_t opti
  * Returns 0, 9, 7 or 11. On 0 the text is the first bytes of `text`, without a closing NUL, and the
  * bytes after it are not changed. The values of the answer part are the variables and the clauses. The
  * text's length is not reported: it ends with the newline after the last clause, or after the header
- * where there is no clause. So it has one newline for the header and one for each clause.
+ * where there is no clause. So it has one newline for the header and one for each clause. `text_bytes` of
+ * simbolufa.hpp tells it before the call.
  */
 uint32_t simbolufa_write_dimacs(const uint8_t *clauses, size_t clauses_len, uint32_t variables,
                                 uint8_t *text, size_t text_len, uint8_t *answer, size_t answer_len);
@@ -216,7 +226,10 @@ struct simbolufa_answer {
 /* Reads a 32-bit little-endian number from four bytes. */
 static inline uint32_t simbolufa_read_number(const uint8_t *bytes)
 {
-    return (uint32_t)bytes[0] | (uint32_t)bytes[1] << 8 | (uint32_t)bytes[2] << 16 | (uint32_t)bytes[3] << 24;
+    uint32_t number = bytes[3];
+    number = number << 8 | bytes[2];
+    number = number << 8 | bytes[1];
+    return number << 8 | bytes[0];
 }
 
 /* Reads the 16 bytes of an answer part. */

@@ -5,16 +5,21 @@
  * allocates, throws or keeps state. The answer part is on the stack of the call, so refusal 11 does not
  * occur, and it overlaps no buffer of the caller.
  *
- * A guard from table to clauses:
+ * A guard from table to DIMACS text:
  *
  *   std::vector<uint8_t> set(simbolufa::nodes_of(table)), clauses;
  *   simbolufa::answer told = simbolufa::choose(table, options, 1024, set);
  *   size_t needed = 0;
- *   if (told.accepted())
+ *   if (told)
  *       told = simbolufa::needed_bytes(table, options, set, needed);
- *   if (told.accepted()) {
+ *   if (told) {
  *       clauses.resize(needed);
  *       told = simbolufa::convert(table, options, set, clauses);
+ *   }
+ *   std::string text;
+ *   if (told) {
+ *       text.resize(simbolufa::text_bytes(clauses, told.first));
+ *       told = simbolufa::write_dimacs(clauses, told.first, text);
  *   }
  *
  * Two guards that are solved together: convert the second with its option count V set to the variables
@@ -25,6 +30,10 @@
 #ifndef SIMBOLUFA_HPP
 #define SIMBOLUFA_HPP
 
+#if __cplusplus < 201703L
+#error "simbolufa.hpp needs C++17. simbolufa.h has the same entries for older standards"
+#else
+
 #include "simbolufa.h"
 
 #include <cstddef>
@@ -34,45 +43,107 @@
 
 namespace simbolufa {
 
+/* The version of these headers, and of the library that is installed with them. */
+[[nodiscard]] constexpr const char *version() noexcept
+{
+    return SIMBOLUFA_VERSION;
+}
+
 namespace detail {
 
-// Containers of bytes, such as std::vector<uint8_t> and std::array<uint8_t, n>.
-template <class Container, class Pointer>
-using points_to = std::enable_if_t<std::is_convertible_v<decltype(std::declval<Container &>().data()), Pointer> &&
-                                   std::is_convertible_v<decltype(std::declval<Container &>().size()), std::size_t>>;
+static_assert(std::is_same_v<std::uint8_t, unsigned char>, "bytes of every kind are read as uint8_t");
+
+// What a byte is called here and there. Arrays of char are no buffers: a literal would bring its NUL.
+template <class Byte>
+inline constexpr bool is_byte = std::is_same_v<Byte, std::uint8_t> || std::is_same_v<Byte, char> ||
+#ifdef __cpp_char8_t
+                                std::is_same_v<Byte, char8_t> ||
+#endif
+                                std::is_same_v<Byte, std::byte>;
+
+template <class Byte> constexpr auto *as_numbers(Byte *start) noexcept
+{
+    using number = std::conditional_t<std::is_const_v<Byte>, const std::uint8_t, std::uint8_t>;
+    if constexpr (std::is_same_v<Byte, number>)
+        return start;
+    else
+        return reinterpret_cast<number *>(start);
+}
+
+template <class Container> using pointer_of = decltype(std::declval<Container &>().data());
+template <class Container> using element_of = std::remove_pointer_t<pointer_of<Container>>;
+template <class Container> using size_of = decltype(std::declval<Container &>().size());
+
+// Containers of bytes that may be read: std::vector, std::array, std::string, std::string_view, std::span.
+template <class Container>
+using readable = std::enable_if_t<std::is_pointer_v<pointer_of<const Container>> &&
+                                  is_byte<std::remove_cv_t<element_of<const Container>>> &&
+                                  std::is_convertible_v<size_of<const Container>, std::size_t>>;
+
+// Those that may be written. A view, such as std::span, may be a constant or a temporary: its bytes are not.
+template <class Container>
+using writable = std::enable_if_t<std::is_pointer_v<pointer_of<Container>> && is_byte<element_of<Container>> &&
+                                  std::is_convertible_v<size_of<Container>, std::size_t>>;
 
 } // namespace detail
 
-/* Bytes that a call reads. They are the caller's, and must outlive the view. */
+/*
+ * Bytes that a call reads: uint8_t, char, char8_t or std::byte. They are the caller's, and must outlive the view.
+ */
 struct bytes {
     const std::uint8_t *data = nullptr;
     std::size_t size = 0;
 
     constexpr bytes() noexcept = default;
     constexpr bytes(const std::uint8_t *start, std::size_t length) noexcept : data(start), size(length) {}
+    template <class Byte, class = std::enable_if_t<detail::is_byte<Byte>>>
+    constexpr bytes(const Byte *start, std::size_t length) noexcept : data(detail::as_numbers(start)), size(length)
+    {
+    }
     template <std::size_t count>
     constexpr bytes(const std::uint8_t (&array)[count]) noexcept : data(array), size(count)
     {
     }
-    template <class Container, class = detail::points_to<const Container, const std::uint8_t *>>
-    constexpr bytes(const Container &container) noexcept : data(container.data()), size(container.size())
+    template <std::size_t count>
+    constexpr bytes(const std::byte (&array)[count]) noexcept : data(detail::as_numbers(array + 0)), size(count)
+    {
+    }
+    template <class Container, class = detail::readable<Container>>
+    constexpr bytes(const Container &container) noexcept
+        : data(detail::as_numbers(container.data())), size(container.size())
     {
     }
 };
 
-/* Bytes that a call writes, and that a later call may read. They are the caller's, and must outlive the view. */
+/*
+ * Bytes that a call writes, and that a later call may read, of the same types. They are the caller's, and must outlive the
+ * view.
+ */
 struct room {
     std::uint8_t *data = nullptr;
     std::size_t size = 0;
 
     constexpr room() noexcept = default;
     constexpr room(std::uint8_t *start, std::size_t length) noexcept : data(start), size(length) {}
+    template <class Byte, class = std::enable_if_t<detail::is_byte<Byte>>>
+    constexpr room(Byte *start, std::size_t length) noexcept : data(detail::as_numbers(start)), size(length)
+    {
+    }
     template <std::size_t count>
     constexpr room(std::uint8_t (&array)[count]) noexcept : data(array), size(count)
     {
     }
-    template <class Container, class = detail::points_to<Container, std::uint8_t *>>
-    constexpr room(Container &container) noexcept : data(container.data()), size(container.size())
+    template <std::size_t count>
+    constexpr room(std::byte (&array)[count]) noexcept : data(detail::as_numbers(array + 0)), size(count)
+    {
+    }
+    template <class Container, class = detail::writable<Container>>
+    constexpr room(Container &container) noexcept
+        : data(detail::as_numbers(container.data())), size(container.size())
+    {
+    }
+    template <class View, class = detail::writable<const View>>
+    constexpr room(const View &view) noexcept : data(detail::as_numbers(view.data())), size(view.size())
     {
     }
 
@@ -83,9 +154,16 @@ struct room {
 constexpr std::uint32_t clause_ceiling = 65535;
 constexpr std::uint32_t literal_ceiling = 1000000;
 
-/* What a call says: number, place and its two values, which are 0 where it refuses. */
-struct answer : simbolufa_answer {
-    constexpr bool accepted() const noexcept { return number == SIMBOLUFA_ACCEPTED; }
+/* The most variables of a DIMACS text. */
+constexpr std::uint32_t most_variables = 40000;
+
+/*
+ * What a call says: number, place and its two values, which are 0 where it refuses. It is true where nothing is refused.
+ * A compiler warns where it is not looked at.
+ */
+struct [[nodiscard]] answer : simbolufa_answer {
+    [[nodiscard]] constexpr bool accepted() const noexcept { return number == SIMBOLUFA_ACCEPTED; }
+    constexpr explicit operator bool() const noexcept { return accepted(); }
 };
 
 namespace detail {
@@ -98,6 +176,15 @@ template <class Call> answer told(Call call) noexcept
     return answer{simbolufa_read_answer(part)};
 }
 
+// How many decimal digits a number has.
+constexpr std::size_t digits_of(std::uint32_t number) noexcept
+{
+    std::size_t count = 1;
+    for (; number > 9; number /= 10)
+        count++;
+    return count;
+}
+
 // A refusal without a place.
 constexpr answer refusal(std::uint32_t number) noexcept
 {
@@ -107,7 +194,7 @@ constexpr answer refusal(std::uint32_t number) noexcept
 } // namespace detail
 
 /* The length of a set for a table: one byte a node. */
-constexpr std::size_t nodes_of(bytes table) noexcept
+[[nodiscard]] constexpr std::size_t nodes_of(bytes table) noexcept
 {
     return table.size / 5;
 }
@@ -154,7 +241,7 @@ inline answer needed_bytes(bytes table, std::uint32_t options, bytes set, std::s
 {
     needed = 0;
     const answer totals = measure(table, options, set);
-    if (!totals.accepted())
+    if (!totals)
         return totals;
     // In the order of convert: at the ceiling of clauses the literals show at theirs too.
     if (totals.first >= clause_ceiling)
@@ -163,6 +250,42 @@ inline answer needed_bytes(bytes table, std::uint32_t options, bytes set, std::s
         return detail::refusal(SIMBOLUFA_REFUSED_LITERALS);
     needed = 4 * (static_cast<std::size_t>(totals.first) + totals.second);
     return totals;
+}
+
+/*
+ * Tells how many bytes the DIMACS text of these clause bytes has: write_dimacs needs exactly so many, and writes them.
+ *
+ * It is 0 where write_dimacs would refuse the clause bytes, by 9. No text is that short.
+ */
+[[nodiscard]] inline std::size_t text_bytes(bytes clauses, std::uint32_t variables) noexcept
+{
+    constexpr std::size_t header = sizeof "p cnf  \n" - 1;
+    if (clauses.size % 4 != 0 || variables > most_variables)
+        return 0;
+    std::uint32_t closed = 0;
+    std::uint32_t literals = 0;
+    std::size_t length = 0;
+    bool is_open = false;
+    for (std::size_t at = 0; at < clauses.size; at += 4) {
+        const std::uint32_t number = simbolufa_read_number(clauses.data + at);
+        is_open = number != 0;
+        if (!is_open) {
+            // A zero and its newline.
+            length += 2;
+            closed++;
+        } else {
+            const bool is_negative = number > 0x7fffffff;
+            const std::uint32_t variable = is_negative ? 0 - number : number;
+            if (variable > variables)
+                return 0;
+            // A sign, the digits and a space.
+            length += (is_negative ? 1 : 0) + detail::digits_of(variable) + 1;
+            literals++;
+        }
+        if (closed >= clause_ceiling || literals >= literal_ceiling)
+            return 0;
+    }
+    return is_open ? 0 : header + detail::digits_of(variables) + detail::digits_of(closed) + length;
 }
 
 /* Writes clause bytes as DIMACS text. Values: variables, clauses. */
@@ -182,5 +305,7 @@ inline answer read_dimacs(bytes text, room clauses) noexcept
 }
 
 } // namespace simbolufa
+
+#endif // C++17
 
 #endif

@@ -2,209 +2,234 @@
 
 #include "guards.hpp"
 
+#include "file.hpp"
+#include "index.hpp"
+#include "node_file.hpp"
+
 #include <algorithm>
-#include <cerrno>
-#include <charconv>
-#include <cstdio>
-#include <cstring>
-#include <memory>
-#include <optional>
-#include <stdexcept>
+#include <cstddef>
+#include <cstdint>
+#include <new>
 #include <system_error>
+#include <utility>
 #include <vector>
 
 namespace fs = std::filesystem;
 
 namespace {
 
-// Why a file cannot be read.
-struct Unreadable : std::runtime_error {
-    using std::runtime_error::runtime_error;
-};
+constexpr const char *set_name = "guards.txt";
+constexpr const char *index_name = "index.tsv";
+// It is read whole.
+constexpr size_t longest_index = size_t{256} << 20;
+// One byte more shows that a node file is too long.
+constexpr size_t longest_kept = longest_node_file + 1;
 
-std::string read_whole(const fs::path &path)
-{
-    struct Close {
-        void operator()(std::FILE *file) const { std::fclose(file); }
-    };
-    const std::unique_ptr<std::FILE, Close> file(std::fopen(path.c_str(), "rb"));
-    if (!file)
-        throw Unreadable(std::strerror(errno));
-    std::string text;
-    char part[65536];
-    while (const size_t length = std::fread(part, 1, sizeof part, file.get()))
-        text.append(part, length);
-    if (std::ferror(file.get()))
-        throw Unreadable(std::strerror(errno));
-    return text;
-}
-
-// A file without an index: one node file or several.
-void take_file(const fs::path &path, GuardTaker &taker)
-{
-    const std::string whole = read_whole(path);
-    const std::string_view text = whole;
-    const std::string_view begin = "\noptions";
-    size_t start = 0;
-    size_t line = 1;
-    for (size_t number = 1; start < text.size() || number == 1; number++) {
-        const size_t newline = text.find(begin, start);
-        const size_t end = newline == std::string_view::npos ? text.size() : newline + 1;
-        const std::string_view piece = text.substr(start, end - start);
-        if (piece.size() == text.size())
-            taker.take({path.string(), "", piece});
-        else
-            taker.take({path.string() + "#" + std::to_string(number), path.string() + ":" + std::to_string(line), piece});
-        line += static_cast<size_t>(std::count(piece.begin(), piece.end(), '\n'));
-        start = end;
-    }
-}
-
-std::vector<std::string_view> split(std::string_view text, char mark)
-{
-    std::vector<std::string_view> parts;
-    for (size_t end; (end = text.find(mark)) != std::string_view::npos; text.remove_prefix(end + 1))
-        parts.push_back(text.substr(0, end));
-    parts.push_back(text);
-    return parts;
-}
-
-// The index of a set. Its first line names the columns.
-class Index {
+// Takes the node files of a file without an index. They come as parts of any length.
+class Pieces {
 public:
-    explicit Index(std::string_view text) : lines(split(text, '\n'))
+    Pieces(const fs::path &path, GuardTaker &taker) : path(path.string()), taker(taker) {}
+
+    void add(std::string_view part)
     {
-        if (lines.back().empty())
-            lines.pop_back();
-        if (lines.empty())
-            throw Unreadable("there is no line that names the columns");
-        columns = split(lines.front(), '\t');
-        id = column("id");
-        offset = column("offset");
-        length = column("length");
-        source = find("file:line");
+        window.append(part);
+        const std::string_view text = window;
+        size_t start = 0;
+        for (size_t at; (at = text.find(begin, start)) != std::string_view::npos; start = at + 1) {
+            keep(text.substr(start, at + 1 - start));
+            take(true);
+        }
+        // The last bytes may be the first ones of `begin`.
+        const size_t open = std::min(text.size() - start, begin.size() - 1);
+        keep(text.substr(start, text.size() - open - start));
+        window.erase(0, text.size() - open);
     }
 
-    // The guards of a set. Every byte must be of one of them, since a guard would be lost otherwise.
-    std::vector<Guard> guards_of(std::string_view set) const
+    void end()
     {
-        std::vector<Guard> guards;
-        size_t start = 0;
-        for (size_t at = 1; at < lines.size(); at++) {
-            const std::string where = "line " + std::to_string(at + 1);
-            const auto fields = split(lines[at], '\t');
-            if (fields.size() != columns.size())
-                throw Unreadable(where + " has not one field for each column");
-            const auto first = number_of(fields[offset]);
-            const auto count = number_of(fields[length]);
-            if (!first || *first != start)
-                throw Unreadable(where + " does not begin where the guard before it ends");
-            if (!count || *count > set.size() - start)
-                throw Unreadable(where + " goes past the end of the guards");
-            const std::string_view from = source ? fields[*source] : std::string_view();
-            guards.push_back({std::string(fields[id]), std::string(from), set.substr(start, *count)});
-            start += *count;
-        }
-        if (guards.empty())
-            throw Unreadable("there is no guard in it");
-        if (start != set.size())
-            throw Unreadable("guards stand behind the last one that it names");
-        return guards;
+        keep(window);
+        take(false);
     }
 
 private:
-    std::optional<size_t> find(std::string_view name) const
+    static constexpr std::string_view begin = "\noptions";
+
+    void keep(std::string_view part)
     {
-        const auto found = std::find(columns.begin(), columns.end(), name);
-        if (found == columns.end())
-            return std::nullopt;
-        return static_cast<size_t>(found - columns.begin());
+        newlines += static_cast<uint64_t>(std::count(part.begin(), part.end(), '\n'));
+        piece.append(part.substr(0, longest_kept - piece.size()));
     }
 
-    size_t column(const char *name) const
+    void take(bool has_next)
     {
-        const auto found = find(name);
-        if (!found)
-            throw Unreadable(std::string("there is no column ") + name);
-        return *found;
+        number++;
+        if (number == 1 && !has_next)
+            taker.take({path, "", piece});
+        else
+            taker.take({path + "#" + std::to_string(number), path + ":" + std::to_string(line), piece});
+        line += newlines;
+        newlines = 0;
+        piece.clear();
     }
 
-    static std::optional<size_t> number_of(std::string_view field)
-    {
-        size_t number = 0;
-        const char *last = field.data() + field.size();
-        const auto [end, error] = std::from_chars(field.data(), last, number);
-        if (error != std::errc() || end != last)
-            return std::nullopt;
-        return number;
-    }
-
-    std::vector<std::string_view> lines;
-    std::vector<std::string_view> columns;
-    size_t id;
-    size_t offset;
-    size_t length;
-    std::optional<size_t> source;
+    const std::string path;
+    GuardTaker &taker;
+    // What was added and is of no piece yet.
+    std::string window;
+    std::string piece;
+    uint64_t number = 0;
+    // Where the piece begins, and how many lines it has so far.
+    uint64_t line = 1;
+    uint64_t newlines = 0;
 };
 
-constexpr const char *set_name = "guards.txt";
-constexpr const char *index_name = "index.tsv";
+void take_file(const fs::path &path, GuardTaker &taker)
+{
+    File file(path);
+    Pieces pieces(path, taker);
+    for (std::string_view part; !(part = file.read()).empty();)
+        pieces.add(part);
+    pieces.end();
+}
 
+// Reads so many bytes, and keeps as many of them as can matter.
+void read_guard(File &set, uint64_t length, std::string &kept)
+{
+    kept.clear();
+    while (length > 0) {
+        const std::string_view part = set.read(length);
+        if (part.empty())
+            throw Unreadable("it became shorter while it was read");
+        kept.append(part.substr(0, longest_kept - kept.size()));
+        length -= part.size();
+    }
+}
+
+// Takes guards.txt by its index.
+void take_set(const fs::path &path, const fs::path &index, GuardTaker &taker)
+{
+    File set(path);
+    std::string text;
+    std::vector<IndexRow> rows;
+    try {
+        text = read_whole(index, longest_index);
+        rows = read_index(text, set.size());
+    } catch (const Unreadable &fault) {
+        taker.miss(index, fault.what());
+        return take_file(path, taker);
+    }
+    std::string kept;
+    for (const IndexRow &row : rows) {
+        read_guard(set, row.length, kept);
+        taker.take({std::string(row.id), std::string(row.source), kept});
+    }
+}
+
+bool is_file(const fs::path &path)
+{
+    std::error_code fault;
+    return fs::is_regular_file(path, fault);
+}
+
+// The files of a set that an index takes apart.
 bool is_indexed(const fs::path &folder)
 {
-    return fs::is_regular_file(folder / set_name) && fs::is_regular_file(folder / index_name);
+    return is_file(folder / set_name) && is_file(folder / index_name);
 }
 
-void take_indexed(const fs::path &folder, GuardTaker &taker)
+// What a path leads to.
+fs::file_type type_of(const fs::path &path)
 {
-    const std::string set = read_whole(folder / set_name);
-    const std::string text = read_whole(folder / index_name);
-    std::vector<Guard> guards;
-    try {
-        guards = Index(text).guards_of(set);
-    } catch (const Unreadable &fault) {
-        throw Unreadable(std::string(index_name) + ": " + fault.what());
-    }
-    for (const Guard &guard : guards)
-        taker.take(guard);
+    std::error_code fault;
+    const fs::file_type type = fs::status(path, fault).type();
+    if (type == fs::file_type::not_found)
+        throw Unreadable("no such file or folder");
+    if (fault)
+        throw Unreadable(fault.message());
+    return type;
 }
 
-void take_folder(const fs::path &folder, GuardTaker &taker)
+// A link may lead back to where the walk comes from.
+bool is_linked_folder(const fs::path &path)
 {
-    if (is_indexed(folder))
-        return take_indexed(folder, taker);
+    std::error_code fault;
+    return fs::is_symlink(path, fault) && fs::is_directory(path, fault);
+}
+
+bool is_passed_over(const fs::path &path)
+{
+    const std::string name = path.filename().string();
+    const bool is_saved = name.size() > 1 && name.front() == '#' && name.back() == '#';
+    return name.front() == '.' || name.back() == '~' || is_saved;
+}
+
+// What a folder has, in the order of names. Where not all of it can be told, the rest is.
+std::vector<fs::path> paths_in(const fs::path &folder, GuardTaker &taker)
+{
     std::vector<fs::path> paths;
-    for (const fs::directory_entry &entry : fs::directory_iterator(folder))
-        paths.push_back(entry.path());
-    if (paths.empty())
-        throw Unreadable("the folder is empty");
+    std::error_code fault;
+    fs::directory_iterator entry(folder, fault);
+    for (; !fault && entry != fs::directory_iterator(); entry.increment(fault))
+        paths.push_back(entry->path());
+    if (fault)
+        taker.miss(folder, fault.message());
+    else if (paths.empty())
+        taker.miss(folder, "the folder is empty");
+    else if (std::all_of(paths.begin(), paths.end(), is_passed_over))
+        taker.miss(folder, "hidden files and backups are all that is in it");
     std::sort(paths.begin(), paths.end());
-    for (const fs::path &path : paths) {
-        // A link may lead back to where the walk comes from.
-        if (fs::is_symlink(path) && fs::is_directory(path))
-            taker.miss(path, "a linked folder is not walked");
-        else
-            find_guards(path, taker);
+    return paths;
+}
+
+// Whether a walk leaves out what it finds in a folder.
+bool is_left_out(const fs::path &path, GuardTaker &taker)
+{
+    if (is_passed_over(path)) {
+        taker.pass_over(path);
+        return true;
     }
+    if (is_linked_folder(path)) {
+        taker.miss(path, "a linked folder is not walked");
+        return true;
+    }
+    // An index is read with its set.
+    return path.filename() == index_name && is_indexed(path.parent_path());
+}
+
+// Takes what is no folder.
+void take_path(const fs::path &path, fs::file_type type, GuardTaker &taker)
+{
+    if (type != fs::file_type::regular)
+        throw Unreadable(no_file);
+    const fs::path index = path.parent_path() / index_name;
+    if (path.filename() == set_name && is_file(index))
+        return take_set(path, index, taker);
+    take_file(path, taker);
 }
 
 } // namespace
 
 void find_guards(const fs::path &path, GuardTaker &taker)
 {
-    try {
-        if (fs::is_directory(path))
-            return take_folder(path, taker);
-        if (!fs::exists(path))
-            throw Unreadable("no such file or folder");
-        if (!fs::is_regular_file(path))
-            throw Unreadable("neither a file nor a folder");
-        if (path.filename() == set_name && is_indexed(path.parent_path()))
-            return take_indexed(path.parent_path(), taker);
-        take_file(path, taker);
-    } catch (const Unreadable &fault) {
-        taker.miss(path, fault.what());
-    } catch (const fs::filesystem_error &fault) {
-        taker.miss(path, fault.code().message());
+    // What is still to be looked at, the next one last. A walk of its own for each folder would go as deep as they do.
+    std::vector<fs::path> open = {path};
+    for (bool is_named = true; !open.empty(); is_named = false) {
+        const fs::path next = std::move(open.back());
+        open.pop_back();
+        if (!is_named && is_left_out(next, taker))
+            continue;
+        try {
+            const fs::file_type type = type_of(next);
+            if (type != fs::file_type::directory) {
+                take_path(next, type, taker);
+                continue;
+            }
+            const std::vector<fs::path> paths = paths_in(next, taker);
+            open.insert(open.end(), paths.rbegin(), paths.rend());
+        } catch (const Unreadable &fault) {
+            taker.miss(next, fault.what());
+        } catch (const std::bad_alloc &) {
+            taker.miss(next, "there is not enough memory");
+        }
     }
 }

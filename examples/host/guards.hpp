@@ -7,7 +7,8 @@
 #include <string>
 #include <string_view>
 
-// A guard as it is found. Its text is a node file, right or wrong.
+// A guard as it is found. Its text is a node file, right or wrong. One that is too long to be right may be cut short, to a
+// length that is still too long.
 struct Guard {
     // The file, the file and a number from 1, or the id of an index.
     std::string name;
@@ -23,13 +24,16 @@ public:
     virtual void take(const Guard &guard) = 0;
     // Something is not read, and its guards are missing.
     virtual void miss(const std::filesystem::path &path, const std::string &why) = 0;
+    // A hidden file or folder, or an editor's backup, is no guard.
+    virtual void pass_over(const std::filesystem::path &path) = 0;
 };
 
-// Finds the guards at a path, and what cannot be read.
+// Finds the guards at a path, and what cannot be read. What cannot be read keeps nothing else from being read.
 //
 // A file is one node file, or several: each line that starts with `options` begins one. A folder is walked, and every
-// file in it is read, in the order of names. But where guards.txt and index.tsv stand in one folder, the index says
-// where each guard begins and ends, what its id is and where it comes from, and nothing else of that folder is read.
+// file in it is read, in the order of names. But where index.tsv stands beside guards.txt, the index says where each
+// guard of guards.txt begins and ends, what its id is and where it comes from. Where the index cannot be used, guards.txt
+// is read without it.
 void find_guards(const std::filesystem::path &path, GuardTaker &taker);
 
 #endif

@@ -3,9 +3,13 @@
 #include "guards.hpp"
 #include "node_file.hpp"
 #include "report.hpp"
+#include "signals.hpp"
 #include "solver.hpp"
 
 #include <simbolufa.hpp>
+
+#include <fcntl.h>
+#include <unistd.h>
 
 #include <algorithm>
 #include <array>
@@ -13,6 +17,7 @@
 #include <chrono>
 #include <cstdio>
 #include <exception>
+#include <new>
 #include <string>
 #include <string_view>
 #include <system_error>
@@ -28,6 +33,7 @@ constexpr char help[] = "nightly [--quiet] [--times] [--conflicts N] PATH...\n"
                         "\n"
                         "Says which branches can never be compiled. A PATH is a node file, a file of several node\n"
                         "files, or a folder of such files. guards.txt with index.tsv beside it is read by its index.\n"
+                        "Hidden files and backups in a folder are passed over: `.x`, `x~`, `#x#`.\n"
                         "\n"
                         "  --quiet         only dead branches, refusals and what is not decided or not read\n"
                         "  --times         how long each step took\n"
@@ -38,7 +44,8 @@ constexpr char help[] = "nightly [--quiet] [--times] [--conflicts N] PATH...\n"
                         "Refusals go to standard error, one a line: name, `refused`, number, place, source.\n"
                         "\n"
                         "Exit status: 0 all guards converted and decided, 1 a guard refused or undecided,\n"
-                        "2 bad usage or a path not read.\n";
+                        "2 bad usage, a path not read or a line not written, 128 and the number of a signal that\n"
+                        "ended the pass.\n";
 
 // What the command asks for.
 struct Command {
@@ -66,13 +73,30 @@ private:
 
 // Takes guards one by one. Its buffers serve all of them.
 //
-// Converting a deep table takes up to 474 KiB of stack, which the first thread of a program has. A host that converts
-// from other threads gives them stacks of 512 KiB.
+// simbolufa.h says how much stack a call takes. The first thread of a program has more. A host that converts from other
+// threads gives them as much.
 class Pass : public GuardTaker {
 public:
     Pass(Report &report, int conflicts) : report(report), solver(conflicts) {}
 
     void take(const Guard &guard) override
+    {
+        stop_if_caught();
+        try {
+            decide(guard);
+        } catch (const std::bad_alloc &) {
+            report.missed(guard.name, "there is not enough memory");
+        }
+    }
+
+    void miss(const std::filesystem::path &path, const std::string &why) override { report.missed(path.string(), why); }
+
+    void pass_over(const std::filesystem::path &) override { report.passed_over(); }
+
+    const Times &times() const { return spent; }
+
+private:
+    void decide(const Guard &guard)
     {
         const simbolufa::answer told = convert(guard);
         if (!told.accepted())
@@ -90,11 +114,6 @@ public:
         }
     }
 
-    void miss(const std::filesystem::path &path, const std::string &why) override { report.missed(path.string(), why); }
-
-    const Times &times() const { return spent; }
-
-private:
     // From a node file to clauses. The first refusal ends it.
     simbolufa::answer convert(const Guard &guard)
     {
@@ -159,21 +178,35 @@ std::string read_words(int count, char **words, Command &command)
     return command.paths.empty() && !command.help ? "no path is given" : "";
 }
 
-int run(int count, char **words)
+// Where a standard descriptor is closed, a file that is opened would take its place, and be written to. What is put there
+// cannot be written.
+void keep_standard_descriptors()
 {
-    Command command;
-    const std::string fault = read_words(count, words, command);
-    if (!fault.empty()) {
-        std::fprintf(stderr, "nightly: %s\n%s", fault.c_str(), help);
-        return bad_usage;
-    }
-    if (command.help)
-        return std::fputs(help, stdout) < 0 || std::fflush(stdout) != 0 ? bad_usage : 0;
+    for (const int descriptor : {STDIN_FILENO, STDOUT_FILENO, STDERR_FILENO})
+        if (::fcntl(descriptor, F_GETFD) < 0)
+            ::open("/dev/null", O_RDONLY);
+}
 
+int say_help()
+{
+    Output output(STDOUT_FILENO);
+    output.write(help);
+    return output.has_failed() ? bad_usage : 0;
+}
+
+int run(const Command &command)
+{
     Report report(command.quiet);
     Pass pass(report, command.conflicts);
-    for (const char *path : command.paths)
-        find_guards(path, pass);
+    catch_signals();
+    try {
+        for (const char *path : command.paths)
+            find_guards(path, pass);
+        stop_if_caught();
+    } catch (const Stopped &) {
+        report.end_at(caught_signal());
+        return 128 + caught_signal();
+    }
     if (command.times)
         report.times(pass.times());
     report.end();
@@ -184,10 +217,17 @@ int run(int count, char **words)
 
 int main(int count, char **words)
 {
+    keep_standard_descriptors();
     try {
-        return run(count, words);
+        Command command;
+        const std::string fault = read_words(count, words, command);
+        if (!fault.empty()) {
+            std::fprintf(stderr, "nightly: %s\n%s", fault.c_str(), help);
+            return bad_usage;
+        }
+        return command.help ? say_help() : run(command);
     } catch (const std::exception &fault) {
-        // Memory is out, for instance. The report is not complete, and nobody should take it for one.
+        // The report is not complete, and nobody should take it for one.
         std::fprintf(stderr, "nightly: the pass did not end: %s\n", fault.what());
         return bad_usage;
     }

@@ -4,13 +4,11 @@
 
 #include <array>
 #include <charconv>
-#include <cstddef>
 #include <optional>
 #include <system_error>
 
 namespace {
 
-constexpr size_t longest_text = 65536;
 constexpr size_t most_nodes = 1024;
 constexpr uint32_t most_kind = 255;
 constexpr uint32_t most_number = 65535;
@@ -99,7 +97,7 @@ simbolufa::answer read_node_file(std::string_view text, NodeFile &file)
 {
     file.options = 0;
     file.table.clear();
-    if (text.size() > longest_text)
+    if (text.size() > longest_node_file)
         return refused_at(0);
     const auto first = take_line(text);
     const auto options = first ? options_of(*first) : std::nullopt;

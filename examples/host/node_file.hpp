@@ -5,9 +5,13 @@
 
 #include <simbolufa.hpp>
 
+#include <cstddef>
 #include <cstdint>
 #include <string_view>
 #include <vector>
+
+// A longer text is no node file.
+constexpr size_t longest_node_file = 65536;
 
 // What a node file says. One is used for all files, so that its table is not allocated for each.
 struct NodeFile {

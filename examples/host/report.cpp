@@ -2,20 +2,17 @@
 
 #include "report.hpp"
 
+#include "shown.hpp"
+
+#include <poll.h>
 #include <unistd.h>
+
+#include <cerrno>
+#include <cstdio>
 
 namespace {
 
 constexpr std::chrono::milliseconds progress_interval{100};
-
-// A text with nothing in it that could pass for the end of a field or of a line.
-std::string shown(std::string text)
-{
-    for (char &byte : text)
-        if (static_cast<unsigned char>(byte) < 32 || byte == 127)
-            byte = '?';
-    return text;
-}
 
 // A line about a guard: its name, what is said of it, and its source where it has one.
 std::string line_of(const Guard &guard, const std::string &said)
@@ -31,9 +28,33 @@ std::string in_seconds(Duration time, int digits)
     return text;
 }
 
+// Whether a write that took nothing may be made again.
+bool may_go_on(int descriptor)
+{
+    if (errno == EINTR)
+        return true;
+    // A caller may have made a pipe of its own one that does not wait.
+    struct pollfd one = {descriptor, POLLOUT, 0};
+    return errno == EAGAIN && (::poll(&one, 1, -1) > 0 || errno == EINTR);
+}
+
 } // namespace
 
-Report::Report(bool quiet) : is_quiet(quiet), has_progress(!quiet && isatty(STDERR_FILENO)) {}
+void Output::write(std::string_view text)
+{
+    while (!failed && !text.empty()) {
+        const ssize_t count = ::write(descriptor, text.data(), text.size());
+        if (count >= 0)
+            text.remove_prefix(static_cast<size_t>(count));
+        else
+            failed = !may_go_on(descriptor);
+    }
+}
+
+Report::Report(bool quiet)
+    : is_quiet(quiet), has_progress(!quiet && isatty(STDERR_FILENO)), found(STDOUT_FILENO), told(STDERR_FILENO)
+{
+}
 
 void Report::live()
 {
@@ -44,48 +65,56 @@ void Report::live()
 void Report::dead(const Guard &guard)
 {
     dead_guards++;
-    say(stdout, line_of(guard, "never compiled"));
+    say(found, line_of(guard, "never compiled"));
 }
 
 void Report::undecided(const Guard &guard)
 {
     undecided_guards++;
-    say(stderr, line_of(guard, "undecided"));
+    say(told, line_of(guard, "undecided"));
 }
 
 void Report::refused(const Guard &guard, const simbolufa::answer &answer)
 {
     refused_guards[answer.number]++;
-    say(stderr, line_of(guard, "refused\t" + std::to_string(answer.number) + "\t" + std::to_string(answer.place)));
+    say(told, line_of(guard, "refused\t" + std::to_string(answer.number) + "\t" + std::to_string(answer.place)));
 }
 
 void Report::missed(const std::string &path, const std::string &why)
 {
     missed_paths++;
-    say(stderr, shown(path) + "\tnot read\t" + shown(why));
+    say(told, shown(path) + "\tnot read\t" + shown(why));
+}
+
+void Report::passed_over()
+{
+    passed_paths++;
 }
 
 void Report::times(const Times &times)
 {
-    say(stderr, "read\t" + in_seconds(times.read, 3));
-    say(stderr, "choose\t" + in_seconds(times.choose, 3));
-    say(stderr, "convert\t" + in_seconds(times.convert, 3));
-    say(stderr, "solve\t" + in_seconds(times.solve, 3));
+    say(told, "read\t" + in_seconds(times.read, 3));
+    say(told, "choose\t" + in_seconds(times.choose, 3));
+    say(told, "convert\t" + in_seconds(times.convert, 3));
+    say(told, "solve\t" + in_seconds(times.solve, 3));
 }
 
 void Report::end()
 {
-    if (std::fflush(stdout) != 0 || std::ferror(stdout)) {
-        say(stderr, "standard output was not written");
-        has_failed = true;
-    }
+    say_whether_written();
     if (!is_quiet)
-        say(stderr, counts() + "; " + in_seconds(std::chrono::steady_clock::now() - began, 2));
+        say(told, summary());
+}
+
+void Report::end_at(int signal)
+{
+    say_whether_written();
+    say(told, "stopped by signal " + std::to_string(signal) + "; so far " + summary());
 }
 
 int Report::status() const
 {
-    if (missed_paths > 0 || has_failed)
+    if (missed_paths > 0 || found.has_failed() || told.has_failed())
         return 2;
     if (refusals() > 0 || undecided_guards > 0)
         return 1;
@@ -120,15 +149,28 @@ std::string Report::counts() const
         text += ", " + std::to_string(undecided_guards) + " undecided";
     if (missed_paths > 0)
         text += ", " + std::to_string(missed_paths) + " not read";
+    if (passed_paths > 0)
+        text += ", " + std::to_string(passed_paths) + " passed over";
     return text;
 }
 
-void Report::say(std::FILE *file, const std::string &line)
+std::string Report::summary() const
+{
+    return counts() + "; " + in_seconds(std::chrono::steady_clock::now() - began, 2);
+}
+
+void Report::say(Output &output, const std::string &line)
 {
     if (is_shown)
-        std::fputs("\r\033[K", stderr);
+        told.write("\r\033[K");
     is_shown = false;
-    std::fputs((line + "\n").c_str(), file);
+    output.write(line + "\n");
+}
+
+void Report::say_whether_written()
+{
+    if (found.has_failed())
+        say(told, "standard output was not written");
 }
 
 void Report::progress()
@@ -140,5 +182,5 @@ void Report::progress()
         return;
     last_shown = now;
     is_shown = true;
-    std::fputs(("\r" + counts()).c_str(), stderr);
+    told.write("\r" + counts());
 }

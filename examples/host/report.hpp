@@ -9,9 +9,9 @@
 
 #include <chrono>
 #include <cstdint>
-#include <cstdio>
 #include <map>
 #include <string>
+#include <string_view>
 
 using Duration = std::chrono::steady_clock::duration;
 
@@ -21,6 +21,20 @@ struct Times {
     Duration choose{};
     Duration convert{};
     Duration solve{};
+};
+
+// A descriptor that lines are written to, each at once, so that none is lost where the pass does not end.
+class Output {
+public:
+    explicit Output(int descriptor) : descriptor(descriptor) {}
+
+    // After a line that was not written, or only in part, nothing more is.
+    void write(std::string_view text);
+    bool has_failed() const { return failed; }
+
+private:
+    const int descriptor;
+    bool failed = false;
 };
 
 class Report {
@@ -33,10 +47,13 @@ public:
     void undecided(const Guard &guard);
     void refused(const Guard &guard, const simbolufa::answer &answer);
     void missed(const std::string &path, const std::string &why);
+    void passed_over();
 
     void times(const Times &times);
-    // Says what was found. Standard output is complete afterwards.
+    // Says what was found.
     void end();
+    // Says what was found before a signal. That has a summary even where the report is quiet.
+    void end_at(int signal);
 
     // For the shell: 0 where every guard was converted and decided, 1 where one was not, 2 where something was not read
     // or not written. A dead branch is a finding and no failure.
@@ -47,8 +64,10 @@ private:
     uint64_t guards() const;
     // The summary, without the time.
     std::string counts() const;
+    std::string summary() const;
     // Writes a line, in place of the progress line where that stands.
-    void say(std::FILE *file, const std::string &line);
+    void say(Output &output, const std::string &line);
+    void say_whether_written();
     void progress();
 
     const bool is_quiet;
@@ -57,11 +76,13 @@ private:
     // When the progress line was last written. It is first written with the first guard.
     std::chrono::steady_clock::time_point last_shown{};
     bool is_shown = false;
-    bool has_failed = false;
+    Output found;
+    Output told;
     uint64_t live_guards = 0;
     uint64_t dead_guards = 0;
     uint64_t undecided_guards = 0;
     uint64_t missed_paths = 0;
+    uint64_t passed_paths = 0;
     std::map<uint32_t, uint64_t> refused_guards;
 };
 

@@ -2,6 +2,8 @@
 
 #include "solver.hpp"
 
+#include "signals.hpp"
+
 #include <cadical.hpp>
 
 namespace {
@@ -9,13 +11,21 @@ namespace {
 constexpr int satisfiable = 10;
 constexpr int unsatisfiable = 20;
 
+// The solver asks now and then whether it should stop.
+class StopAtSignal : public CaDiCaL::Terminator {
+public:
+    bool terminate() override { return caught_signal() != 0; }
+};
+
 } // namespace
 
 Verdict Solver::ask(simbolufa::bytes clauses, uint32_t variables)
 {
     if (numbers.size() <= variables)
         numbers.resize(size_t{variables} + 1);
+    StopAtSignal stop;
     CaDiCaL::Solver solver;
+    solver.connect_terminator(&stop);
     // Standard output is the report's, and the solver would write remarks to it.
     solver.set("quiet", 1);
     for (size_t at = 0; at < clauses.size; at += 4) {
@@ -37,6 +47,8 @@ Verdict Solver::ask(simbolufa::bytes clauses, uint32_t variables)
     case unsatisfiable:
         return Verdict::dead;
     default:
+        // It did not give up by itself where a signal came.
+        stop_if_caught();
         return Verdict::undecided;
     }
 }

@@ -24,7 +24,8 @@ public:
     // over the same guards says the same.
     explicit Solver(int most_conflicts) : most_conflicts(most_conflicts) {}
 
-    // Asks about clause bytes that convert wrote. Guards are asked one by one and share nothing.
+    // Asks about clause bytes that convert wrote. Guards are asked one by one and share nothing. Throws Stopped after a
+    // signal.
     Verdict ask(simbolufa::bytes clauses, uint32_t variables);
 
 private:

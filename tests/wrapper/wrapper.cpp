@@ -1,4 +1,4 @@
-// Checks what simbolufa.hpp adds to simbolufa.h: its views, its answer and the size of a conversion.
+// Checks what simbolufa.hpp adds to simbolufa.h: its views, its answer, and the sizes of a conversion and of a text.
 
 #include <simbolufa.hpp>
 // Twice, because a host's headers may each include it.
@@ -6,11 +6,18 @@
 
 #include <algorithm>
 #include <array>
+#include <cstddef>
 #include <cstdint>
 #include <cstdio>
+#include <cstring>
+#include <random>
 #include <string>
+#include <string_view>
 #include <type_traits>
 #include <vector>
+#if __cplusplus >= 202002L
+#include <span>
+#endif
 
 namespace {
 
@@ -27,10 +34,47 @@ static_assert(std::is_constructible_v<simbolufa::room, uint8_t (&)[4]>);
 static_assert(!std::is_constructible_v<simbolufa::room, const Bytes &>);
 static_assert(!std::is_constructible_v<simbolufa::room, const uint8_t (&)[4]>);
 static_assert(!std::is_constructible_v<simbolufa::room, simbolufa::bytes>);
+// Text, and bytes by their own name.
+static_assert(std::is_constructible_v<simbolufa::bytes, const std::string &>);
+static_assert(std::is_constructible_v<simbolufa::bytes, std::string_view>);
+static_assert(std::is_constructible_v<simbolufa::bytes, const char *, size_t>);
+static_assert(std::is_constructible_v<simbolufa::bytes, const std::vector<std::byte> &>);
+static_assert(std::is_constructible_v<simbolufa::bytes, const std::byte (&)[4]>);
+static_assert(std::is_constructible_v<simbolufa::bytes, const std::byte *, size_t>);
+static_assert(std::is_constructible_v<simbolufa::room, std::string &>);
+static_assert(std::is_constructible_v<simbolufa::room, std::vector<std::byte> &>);
+static_assert(std::is_constructible_v<simbolufa::room, std::array<std::byte, 4> &>);
+static_assert(std::is_constructible_v<simbolufa::room, std::byte (&)[4]>);
+static_assert(std::is_constructible_v<simbolufa::room, char *, size_t>);
+static_assert(!std::is_constructible_v<simbolufa::room, const std::string &>);
+static_assert(!std::is_constructible_v<simbolufa::room, std::string_view>);
+static_assert(!std::is_constructible_v<simbolufa::room, const char *, size_t>);
+static_assert(!std::is_constructible_v<simbolufa::room, std::vector<uint8_t>>);
+static_assert(!std::is_constructible_v<simbolufa::bytes, const std::wstring &>);
+static_assert(!std::is_constructible_v<simbolufa::bytes, const std::vector<bool> &>);
+// A literal would bring its NUL.
+static_assert(!std::is_constructible_v<simbolufa::bytes, const char (&)[4]>);
+#if __cplusplus >= 202002L
+static_assert(std::is_constructible_v<simbolufa::bytes, std::span<const uint8_t>>);
+static_assert(std::is_constructible_v<simbolufa::bytes, std::span<std::byte>>);
+static_assert(std::is_constructible_v<simbolufa::bytes, std::span<const char, 4>>);
+static_assert(std::is_constructible_v<simbolufa::bytes, std::u8string_view>);
+static_assert(std::is_constructible_v<simbolufa::room, std::span<uint8_t>>);
+static_assert(std::is_constructible_v<simbolufa::room, std::span<uint8_t> &>);
+static_assert(std::is_constructible_v<simbolufa::room, const std::span<uint8_t> &>);
+static_assert(std::is_constructible_v<simbolufa::room, std::span<std::byte, 4>>);
+static_assert(std::is_constructible_v<simbolufa::room, std::span<char>>);
+static_assert(!std::is_constructible_v<simbolufa::room, std::span<const uint8_t>>);
+static_assert(!std::is_constructible_v<simbolufa::room, std::span<int>>);
+#endif
 static_assert(noexcept(simbolufa::check({}, 0)) && noexcept(simbolufa::measure({}, 0, {})));
 static_assert(noexcept(simbolufa::choose({}, 0, 0, {})) && noexcept(simbolufa::convert({}, 0, {}, {})));
 static_assert(noexcept(simbolufa::write_dimacs({}, 0, {})) && noexcept(simbolufa::read_dimacs({}, {})));
+static_assert(noexcept(simbolufa::text_bytes({}, 0)));
 static_assert(std::is_trivially_copyable_v<simbolufa::answer>);
+// An answer is asked, and is no number.
+static_assert(std::is_constructible_v<bool, simbolufa::answer> && !std::is_convertible_v<simbolufa::answer, bool>);
+static_assert(std::string_view(simbolufa::version()) == SIMBOLUFA_VERSION);
 
 int checks = 0;
 int wrong = 0;
@@ -46,8 +90,8 @@ void expect(const char *what, bool holds)
 
 bool is(const simbolufa::answer &told, uint32_t number, uint32_t place, uint32_t first, uint32_t second)
 {
-    return told.accepted() == (number == 0) && told.number == number && told.place == place && told.first == first &&
-           told.second == second;
+    return told.accepted() == (number == 0) && told.accepted() == bool(told) && told.number == number &&
+           told.place == place && told.first == first && told.second == second;
 }
 
 void append(Bytes &table, uint8_t kind, size_t a, size_t b)
@@ -155,10 +199,11 @@ void check_sizes()
 void check_texts()
 {
     Bytes clauses(88);
-    simbolufa::convert(table, 2, renamed, clauses);
-    Bytes written(sizeof text - 1);
+    expect("convert", is(simbolufa::convert(table, 2, renamed, clauses), 0, 0, 3, 6));
+    expect("the text's length", simbolufa::text_bytes(clauses, 3) == sizeof text - 1);
+    std::string written(simbolufa::text_bytes(clauses, 3), ' ');
     expect("write", is(simbolufa::write_dimacs(clauses, 3, written), 0, 0, 3, 6));
-    expect("the text", std::string(written.begin(), written.end()) == text);
+    expect("the text", written == text);
     expect("write without room", is(simbolufa::write_dimacs(clauses, 3, {}), 7, 0, 0, 0));
     expect("write with too few variables", is(simbolufa::write_dimacs(clauses, 2, written), 9, 0, 0, 0));
     Bytes again(88);
@@ -166,6 +211,90 @@ void check_texts()
     expect("read without room", is(simbolufa::read_dimacs(written, {}), 7, 0, 0, 0));
     written[0] = 'q';
     expect("read a wrong text", is(simbolufa::read_dimacs(written, again), 8, 0, 0, 0));
+}
+
+// Views of bytes that are called something else.
+void check_views()
+{
+    constexpr size_t length = 88;
+    std::array<std::byte, length> clauses;
+    expect("convert into bytes", is(simbolufa::convert(table, 2, renamed, clauses), 0, 0, 3, 6));
+    std::vector<std::byte> written(simbolufa::text_bytes(clauses, 3));
+    expect("write bytes", is(simbolufa::write_dimacs(clauses, 3, written), 0, 0, 3, 6));
+    expect("the bytes", std::memcmp(written.data(), text, written.size()) == 0);
+    std::byte again[length];
+    expect("read a string", is(simbolufa::read_dimacs(std::string(text), again), 0, 0, 3, 6));
+    expect("read a view", is(simbolufa::read_dimacs(std::string_view(text), again), 0, 0, 3, 6));
+    expect("read a pointer", is(simbolufa::read_dimacs({text, sizeof text - 1}, again), 0, 0, 3, 6));
+    expect("the clauses", std::equal(clauses.begin(), clauses.end(), again));
+    // With its NUL a literal is no text.
+    expect("read a text and its NUL", is(simbolufa::read_dimacs({text, sizeof text}, again), 8, sizeof text - 1, 0, 0));
+#if __cplusplus >= 202002L
+    const std::span<std::byte> part(again);
+    expect("into a span", is(simbolufa::read_dimacs(std::string_view(text), part), 0, 0, 3, 6));
+    const auto less = part.first(length - 1);
+    expect("into a part", is(simbolufa::read_dimacs(std::string_view(text), less), 7, 0, 0, 0));
+#endif
+}
+
+Bytes words(const std::vector<int32_t> &numbers)
+{
+    Bytes bytes;
+    for (const int32_t number : numbers)
+        for (const int shift : {0, 8, 16, 24})
+            bytes.push_back(static_cast<uint8_t>(static_cast<uint32_t>(number) >> shift & 255));
+    return bytes;
+}
+
+// Whether text_bytes tells the length that write_dimacs needs, or 0 where it refuses. All bytes of that room are written,
+// no other is, and one byte less is refused.
+bool is_told(const Bytes &clauses, uint32_t variables)
+{
+    const size_t length = simbolufa::text_bytes(clauses, variables);
+    std::string room(length + 8, '#');
+    const simbolufa::answer told = simbolufa::write_dimacs(clauses, variables, {room.data(), length});
+    if (length == 0)
+        return is(told, 9, 0, 0, 0);
+    const bool is_whole = room.find('#') == length && room[length - 1] == '\n';
+    std::string less(length - 1, '#');
+    return told && is_whole && is(simbolufa::write_dimacs(clauses, variables, less), 7, 0, 0, 0) &&
+           less == std::string(length - 1, '#');
+}
+
+void check_text_sizes()
+{
+    const int32_t least = INT32_MIN;
+    const std::vector<std::vector<int32_t>> cases = {
+        {}, {0}, {0, 0}, {1}, {1, 0}, {-1, 0}, {1, 0, 2}, {0, 1}, {1, 0, 0}, {9, 10, 0}, {-9, -10, 99, 100, -100, 0},
+        {999, 1000, -9999, 10000, 0}, {40000, 0}, {-40000, 0}, {40001, 0}, {-40001, 0}, {least, 0}, {INT32_MAX, 0},
+        {-INT32_MAX, 0},
+    };
+    for (const std::vector<int32_t> &numbers : cases)
+        for (const uint32_t variables : {0u, 1u, 2u, 9u, 10u, 100u, 9999u, 10000u, 39999u, 40000u, 40001u, UINT32_MAX})
+            expect("the length of a text", is_told(words(numbers), variables));
+    Bytes odd = words({1, 0});
+    odd.pop_back();
+    expect("no whole number", simbolufa::text_bytes(odd, 1) == 0 && is_told(odd, 1));
+    for (const size_t count : {9u, 10u, 99u, 100u, 9999u, 10000u, 65534u, 65535u, 65536u})
+        expect("many clauses", is_told(Bytes(4 * count), 1));
+    for (const size_t count : {999999u, 1000000u}) {
+        std::vector<int32_t> numbers(count, -1);
+        numbers.push_back(0);
+        expect("many literals", is_told(words(numbers), 1));
+    }
+    expect("the largest", simbolufa::text_bytes(Bytes(4 * size_t{65534}), 40000) == 18 + 2 * size_t{65534});
+    std::mt19937 random(1);
+    for (int turn = 0; turn < 2000; turn++) {
+        std::vector<int32_t> numbers(random() % 40);
+        for (int32_t &number : numbers)
+            number = static_cast<int32_t>(random() % 12001) - 6000;
+        for (int32_t &number : numbers)
+            number = random() % 4 == 0 ? 0 : number;
+        if (turn % 8 != 0)
+            numbers.push_back(0);
+        const auto variables = static_cast<uint32_t>(turn % 16 == 1 ? 5999 : 6000 + random() % 34002);
+        expect("the length of a drawn text", is_told(words(numbers), variables));
+    }
 }
 
 // The variables that a guard's clauses have beside those that are options of both.
@@ -201,6 +330,8 @@ int main()
     check_calls();
     check_sizes();
     check_texts();
+    check_views();
+    check_text_sizes();
     check_two_guards();
     std::printf("wrapper: %d checks, %d wrong\n", checks, wrong);
     return wrong == 0 ? 0 : 1;

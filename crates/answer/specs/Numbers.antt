@@ -1,4 +1,4 @@
--- "Numbers of refusal": the number, the place and the two values of each answer.
+-- R10: the number, the place and the two values of each answer, and the order of the checks.
 -- Assumes nothing: these are definitions.
 use mathlib.Core.Bool.{Bool, cond, not}
 use Prim.Native.Nat.{ℕ}
@@ -7,11 +7,11 @@ use Rattle.answer.specs.declared.Answer.{Answer}
 use Rattle.answer.specs.declared.Answer.the-variants.{Accepted, TableLength, Options, Record, Set, Clauses, Literals, Room, Text, ClauseBytes, Line, AnswerPart}
 use Rattle.answer.specs.declared.Told.{Told}
 
--- "A refusal reports zero for all else"
+-- R10.4
 abbrev pub refused : ℕ → ℕ → Told
 refused number place = record { number = number; place = place; first = 0; second = 0 }
 
--- the table: "place is 0 unless given"; the number of a wrong record is the one that the rule of records gives
+-- R10.8 to R10.19; the number of a wrong record is the one that the rule of records gives
 abbrev pub toldOf : Answer → Told
 toldOf (Accepted first second) = record { number = 0; place = 0; first = first; second = second }
 toldOf TableLength = refused 1 0
@@ -26,10 +26,9 @@ toldOf ClauseBytes = refused 9 0
 toldOf (Line line) = refused 10 line
 toldOf AnswerPart = refused 11 0
 
--- whether an answer is a refusal
 abbrev pub refuses : Answer → Bool
 refuses a = not (eqb (toldOf a .number) 0)
 
--- "Checks go in this order": a refusal stands, and after acceptance the next check decides
+-- R10.2: a refusal stands, and after acceptance the next check decides
 abbrev pub after : Answer → Answer → Answer
 after a next = cond (refuses a) a next

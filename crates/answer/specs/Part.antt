@@ -1,54 +1,59 @@
--- The host's answer part: what a call returns, and the bytes of the part afterwards.
+-- R11: what a call leaves a host: what it returns, the lent outputs and the answer part.
 -- Assumes nothing: these are definitions.
 use mathlib.Core.Bool.{cond}
 use mathlib.Core.List.{List, _++_}
+use mathlib.Core.Path.{_≡_}
 use Prim.Native.Nat.{ℕ}
-use lib.Dec.{eqb}
+use lib.Dec.{eqb, ltb}
 use lib.ListN.{length}
-use Rattle.laws.specs.Bytes.{little}
-use Rattle.laws.specs.Caps.{cap}
+use Rattle.laws.specs.Lists.{splice}
+use Rattle.laws.specs.Numbers.{cap, little}
 use Rattle.answer.specs.declared.Answer.{Answer}
-use Rattle.answer.specs.declared.Answer.the-variants.{AnswerPart}
+use Rattle.answer.specs.declared.Answer.the-variants.{Room, AnswerPart}
 use Rattle.answer.specs.declared.Told.{Told}
 use Rattle.answer.specs.Numbers.{toldOf, refuses}
 
--- "A place over 4,294,967,295 shows as that number"
+-- R10.5
 abbrev pub mostShown : ℕ
 mostShown = 4_294_967_295
 
--- "number, place, variables or picks, clauses or total, each 32-bit little-endian"
+-- R11.3: number, place and the two values
 abbrev pub bytesOf : Told → List ℕ
 bytesOf t = little 4 (t .number) ++ (little 4 (cap mostShown (t .place)) ++ (little 4 (t .first) ++ little 4 (t .second)))
 
--- what a call returns, and its answer part afterwards
-pub record Given : Type 0 where
-  pub result : ℕ
-  pub part : List ℕ
+-- an answer was given: its number is returned, and the part has its bytes
+pub record Given (a : Answer) (result : ℕ) (part : List ℕ) : Type 0 where
+  pub number : result ≡ toldOf a .number
+  pub bytes : part ≡ bytesOf (toldOf a)
 
-abbrev pub given : Answer → Given
-given a = record { result = toldOf a .number; part = bytesOf (toldOf a) }
-
--- "answer part isn't 16 bytes (looked at first)", and "only 11 writes nothing"
-abbrev pub called : List ℕ → Answer → Given
-called part a = cond (eqb (length part) 16) (given a) (record { result = toldOf AnswerPart .number; part = part })
-
--- what a call with an output answers, and the output buffer afterwards
-pub record Wrote : Type 0 where
+-- what a call answers, and what it leaves in the lent outputs; O is the type of all of them together
+pub record Wrote (O : Type 0) : Type 0 where
   pub answer : Answer
-  pub output : List ℕ
+  pub output : O
 
--- a refusal changes no byte of the output buffer; after acceptance the rest of the call decides
-abbrev pub afterwards : Answer → List ℕ → Wrote → Wrote
+-- a call without an output
+abbrev pub only : Answer → Wrote (Unit {0})
+only a = record { answer = a; output = tt }
+
+-- R10.2 and R11.5: a refusal leaves the outputs as they were, and after acceptance the rest of the call decides
+abbrev pub afterwards : {O : Type 0} → Answer → O → Wrote O → Wrote O
 afterwards a before w = cond (refuses a) (record { answer = a; output = before }) w
 
--- what such a call leaves a host: the result, the output buffer and the answer part
-pub record Left : Type 0 where
+-- R10.19 and R11.6: refusal 7 where the bytes are more than the buffer has; else they are its first ones, and the rest stays
+abbrev pub stored : Answer → List ℕ → List ℕ → Wrote (List ℕ)
+stored a bytes before =
+    cond (ltb (length before) (length bytes))
+    (record { answer = Room; output = before })
+    (record { answer = a; output = splice before 0 bytes })
+
+-- what a host finds after a call
+pub record Left (O : Type 0) : Type 0 where
   pub result : ℕ
-  pub output : List ℕ
+  pub output : O
   pub part : List ℕ
 
--- "only 11 writes nothing": with a wrong part the output buffer stays too
-abbrev pub leaves : List ℕ → List ℕ → Wrote → Left
+-- R10.8 and R11.4: a part that is not 16 bytes is looked at first, and then nothing is written
+abbrev pub leaves : {O : Type 0} → List ℕ → O → Wrote O → Left O
 leaves part before w =
     cond (eqb (length part) 16)
     (record { result = toldOf (w .answer) .number; output = w .output; part = bytesOf (toldOf (w .answer)) })

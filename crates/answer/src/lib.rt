@@ -1,12 +1,13 @@
 // What a call answers: acceptance with two numbers, or one of the refusals; and the 16 bytes that tell a host of it.
+ghost use mathlib.Core.Bool.{not};
 ghost use mathlib.Core.Path.{_≡_};
 ghost use Prim.Native.Nat.{_+_, _≤_};
+ghost use lib.Dec.{eqb};
 ghost use lib.ListN.{length};
-ghost use Rattle.laws.specs.Bytes.{little};
-ghost use Rattle.laws.specs.Caps.{cap};
-ghost use Rattle.laws.specs.Splices.{splice};
+ghost use Rattle.laws.specs.Lists.{splice};
+ghost use Rattle.laws.specs.Numbers.{cap, little};
 ghost use Rattle.answer.specs.Numbers.{refused, toldOf, refuses};
-ghost use Rattle.answer.specs.Part.{mostShown, given};
+ghost use Rattle.answer.specs.Part.{mostShown, Given};
 
 pub enum Answer {
     // No refusal. The two numbers are variables or picks, and clauses or total; of a bare check both are 0.
@@ -113,10 +114,17 @@ pub fn put(out: &mut [u8], at: usize, number: u32)
     out[at + 3] = (fourth % 256) as u8;
 }
 
+// Whether a host's answer part has a wrong length: refusal 11.
+pub fn is_part_wrong(part: &[u8]) -> bool
+    ensures { λ r. ⌜ r ≡ not (eqb (length (now (part .entry))) 16) ⌝ }
+{
+    part.len() != 16
+}
+
 // Writes an answer to the host's answer part, and returns its number.
 pub fn give(answer: Answer, part: &mut [u8]) -> u32
     requires { ⌜ length (now part) ≡ 16 ⌝ }
-    ensures { λ r. ⌜ record { result = r; part = now (part .exit) } ≡ given answer ⌝ }
+    ensures { λ r. ⌜ Given answer r (now (part .exit)) ⌝ }
 {
     let told = tell(answer);
     put(part, 0, told.number);

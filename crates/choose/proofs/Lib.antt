@@ -1,4 +1,4 @@
 -- Laws and theorems of choosing.
-pub mod Allowances
 pub mod Laws
+pub mod Allowances
 pub mod NoChoice

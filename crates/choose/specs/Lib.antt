@@ -1,4 +1,4 @@
--- What the contracts of choosing cite.
-pub mod Counted
-pub mod Visits
+-- What choosing answers, what two allowances promise, and what the inner contracts cite.
 pub mod Chosen
+pub mod Compared
+pub mod Inner

@@ -8,13 +8,14 @@ use native.Mathlib.Nat.{zero-mul, mul-zero, suc-mul, mul-comm, le-mul-of-pos-rig
 use native.Mathlib.Decide.{decLt}
 use native.Mathlib.Omega.{arith}
 use borrow.Author.Tests.{lt-ltb, le-ltb}
-use Rattle.laws.specs.Caps.{cap}
+use Rattle.laws.specs.Numbers.{cap}
 use Rattle.laws.proofs.Caps.{cap-add, cap-scale, cap-mul}
-use Rattle.formula.specs.declared.node.Node.{Node}
 use Rattle.clausal.specs.Output.{wholeOf}
 use Rattle.clausal.specs.Rows.{rowOf}
 use Rattle.clausal.specs.Totals.{Size, sizes, readAt, cappedAt}
-use Rattle.clausal.proofs.Related.{Keeps, related-row, related-whole}
+use Rattle.clausal.specs.Renamings.{Renaming}
+use Rattle.clausal.proofs.Related.{Keeps, related-row-by, related-whole}
+use Rattle.formula.specs.declared.node.Node.{Node}
 
 -- below or not
 data Side (n most : ℕ) : Type 0 where
@@ -146,14 +147,14 @@ module _ (most full : ℕ) (one : 1 < most) (some : 0 < full) where
   }
 
   -- every row, both signs
-  pub capped-row : (v : ℕ) (s : List ℕ) (ns : List Node) (i : ℕ)
-      → rowOf (cappedAt most full) v s ns i
-      ≡ record { P = readAt most full (rowOf sizes v s ns i .P); N = readAt most full (rowOf sizes v s ns i .N) }
-  capped-row v s ns i =
-      let u = related-row sizes (cappedAt most full) Reads v s ns (reads-keeps _) i in
-      λ j. record { P = u .P tt .read j; N = u .N tt .read j }
+  pub capped-row : (name : ℕ → ℕ) (ns : List Node) (i : ℕ)
+      → rowOf (cappedAt most full) name ns i
+      ≡ record { P = readAt most full (rowOf sizes name ns i .P); N = readAt most full (rowOf sizes name ns i .N) }
+  capped-row name ns i =
+      let r = related-row-by (λ x. Unit {0}) sizes (cappedAt most full) Reads (reads-keeps _) name ns (λ j e. tt) (λ j e. tt) i in
+      λ j. record { P = r .P tt .read j; N = r .N tt .read j }
 
   -- the whole output
-  pub capped-whole : (v : ℕ) (s : List ℕ) (ns : List Node)
-      → wholeOf (cappedAt most full) v s ns ≡ readAt most full (wholeOf sizes v s ns)
-  capped-whole v s ns = related-whole sizes (cappedAt most full) Reads v s ns (reads-keeps _) .read
+  pub capped-whole : (u : Renaming) (ns : List Node)
+      → wholeOf (cappedAt most full) u ns ≡ readAt most full (wholeOf sizes u ns)
+  capped-whole u ns = related-whole sizes (cappedAt most full) Reads u ns (reads-keeps _) .read

@@ -6,17 +6,20 @@ use mathlib.Core.Path.{_≡_, refl, ap, _∙_}
 use mathlib.Core.Bool.{Bool, false, cond}
 use mathlib.Core.List.{List}
 use Prim.Native.Nat.{ℕ, _+_, _*_, _<_}
+use lib.Dec.{eqb}
 use lib.ListN.{length}
 use Rattle.formula.specs.Nodes.{nodeIn}
-use Rattle.formula.specs.declared.node.Node.{Node}
-use Rattle.formula.specs.Records.{WellFormed}
+use Rattle.formula.specs.Inner.Right.{WellFormed}
+use Rattle.formula.specs.Sets.{renamed}
 use Rattle.clausal.specs.Algebra.{Algebra, Row, unitRow, clauses}
-use Rattle.clausal.specs.Helpers.{renamed, helperOf}
+use Rattle.clausal.specs.Renamings.{Renaming, nameOf}
 use Rattle.clausal.specs.Rows.{rowOf}
 use Rattle.clausal.specs.Totals.{Size, sizes}
 use Rattle.clausal.proofs.Related.{Keeps, Under, both, keeps-of-map, under-by}
+use Rattle.clausal.proofs.Helpers.{name-plain}
 use Rattle.clausal.proofs.Rows.{ruleAt, seenOf, row-at}
 use Rattle.clausal.proofs.Totals.{size-row}
+use Rattle.formula.specs.declared.node.Node.{Node}
 
 -- clause counts
 abbrev pub counts : Algebra ℕ
@@ -37,21 +40,21 @@ counts-by n f =
     (record { P = λ t. refl; N = λ t. refl }) (record { P = λ t. refl; N = λ t. refl }) in
     λ j. record { P = u .P tt j; N = u .N tt j }
 
-module _ (v : ℕ) (s : List ℕ) (ns : List Node) (wf : WellFormed v ns) (i : ℕ) (h : i < length ns) where
+module _ (u : Renaming) (ns : List Node) (v : ℕ) (wf : WellFormed v ns) (i : ℕ) (h : i < length ns) where
   -- under any set, with the parts as they are seen
-  pub count-at : countsIn (rowOf sizes v s ns i) ≡ ruleAt counts (nodeIn ns i) (λ j. countsIn (seenOf sizes v s ns j))
-  count-at = ap countsIn (row-at sizes v s ns i h (wf .below i)) ∙ counts-by (nodeIn ns i) (seenOf sizes v s ns)
+  pub count-at : countsIn (rowOf sizes (nameOf u) ns i) ≡ ruleAt counts (nodeIn ns i) (λ j. countsIn (seenOf sizes (nameOf u) ns j))
+  count-at = ap countsIn (row-at sizes (nameOf u) ns i h (wf .below i)) ∙ counts-by (nodeIn ns i) (seenOf sizes (nameOf u) ns)
 
   -- with nothing renamed
-  pub count-plain : ((j : ℕ) → renamed s j ≡ false)
-      → countsIn (rowOf sizes v s ns i) ≡ ruleAt counts (nodeIn ns i) (λ j. countsIn (rowOf sizes v s ns j))
+  pub count-plain : ((j : ℕ) → renamed (u .set) j ≡ false)
+      → countsIn (rowOf sizes (nameOf u) ns i) ≡ ruleAt counts (nodeIn ns i) (λ j. countsIn (rowOf sizes (nameOf u) ns j))
   count-plain none = count-at ∙ λ k. ruleAt counts (nodeIn ns i) (λ j. countsIn (plain j k))
     where
-      plain : (j : ℕ) → seenOf sizes v s ns j ≡ rowOf sizes v s ns j
-      plain j = ap (λ (b : Bool). cond b (unitRow sizes (helperOf v s j)) (rowOf sizes v s ns j)) (none j)
+      plain : (j : ℕ) → seenOf sizes (nameOf u) ns j ≡ rowOf sizes (nameOf u) ns j
+      plain j = ap (λ (k : ℕ). cond (eqb k 0) (rowOf sizes (nameOf u) ns j) (unitRow sizes k)) (name-plain u j (none j))
 
 -- they are the lengths of the clause lists
-pub count-lists : (v : ℕ) (s : List ℕ) (ns : List Node) (i : ℕ)
-    → record { P = length (rowOf clauses v s ns i .P); N = length (rowOf clauses v s ns i .N) }
-    ≡ countsIn (rowOf sizes v s ns i)
-count-lists v s ns i = ap countsIn (size-row v s ns i)
+pub count-lists : (u : Renaming) (ns : List Node) (i : ℕ)
+    → record { P = length (rowOf clauses (nameOf u) ns i .P); N = length (rowOf clauses (nameOf u) ns i .N) }
+    ≡ countsIn (rowOf sizes (nameOf u) ns i)
+count-lists u ns i = ap countsIn (size-row (nameOf u) ns i)

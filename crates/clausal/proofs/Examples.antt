@@ -3,14 +3,12 @@
 use mathlib.Core.List.{List, [], _∷_, _++_}
 use Prim.Native.Nat.{ℕ}
 use lib.Dec.{T}
-use Rattle.laws.specs.First.{firstFrom}
-use Rattle.laws.specs.Upward.{upTo}
+use Rattle.laws.specs.Lists.{firstFrom, upTo}
 use Rattle.formula.specs.Marks.{downFrom}
 use Rattle.clausal.specs.Choosing.{visitsFrom}
-use Rattle.clausal.specs.Helpers.{renamedBelow}
+use Rattle.clausal.specs.Renamings.{renamedBelow}
 use Rattle.clausal.specs.Output.{definitions}
-use Rattle.clausal.proofs.Notation.{nothing, renamed, allowed, Example, all, holds}
-use Rattle.clausal.proofs.Notation.{p, n, false-node, true-node, symbol, not-of, and-of, or-of, implies-of, equivalent-of}
+use Rattle.clausal.proofs.Notation.{nothing, renamed, allowed, Example, all, holds, p, n, false-node, true-node, symbol, not-of, and-of, or-of, implies-of, equivalent-of}
 
 -- E = s1 equivalent s2, root E equivalent E, shared
 abbrev seven : List ℕ

@@ -9,53 +9,54 @@ use native.Mathlib.Omega.{arith}
 use lib.Dec.{T, eqb}
 use lib.ListN.{length}
 use borrow.Author.Tests.{eqb-true, eqb-false}
-use Rattle.formula.specs.Marks.{markOf}
-use Rattle.formula.specs.declared.node.Node.{Node}
-use Rattle.clausal.specs.Helpers.{renamed, helperOf}
-use Rattle.clausal.specs.Origins.{Every, none, more}
-use Rattle.clausal.specs.Output.{Part, Halves, halvesOf, downPart, upPart, definition, definitions, partsOf, gather, wholeOf}
+use Rattle.laws.specs.Lists.{Every, none, more}
+use Rattle.laws.proofs.Every.{every-append, every-left, every-right, every-cond, every-taken, every-head, every-tail, true-of, and-both, and-left, and-right}
+use Rattle.formula.specs.Marks.{markOf, halvesOf}
+use Rattle.formula.specs.Sets.{renamed}
+use Rattle.clausal.specs.Renamings.{helperOf, Renaming, nameOf}
+use Rattle.clausal.specs.Output.{Part, downPart, upPart, definition, definitions, partsOf, gather, wholeOf}
 use Rattle.clausal.specs.Rows.{rowOf}
 use Rattle.clausal.specs.Satisfies.{truths}
-use Rattle.clausal.proofs.Every.{every-append, every-left, every-right, every-cond, every-taken, every-head, every-tail}
-use Rattle.clausal.proofs.Every.{true-of, and-both, and-left, and-right}
+use Rattle.formula.specs.declared.mark.Halves.{Halves}
+use Rattle.formula.specs.declared.node.Node.{Node}
 
-module _ (ρ : ℕ → Bool) (v : ℕ) (s : List ℕ) (ns : List Node) where
+module _ (ρ : ℕ → Bool) (u : Renaming) (ns : List Node) where
   -- the definition of node i is true: the half down where the node is positive, the half up where it is negative
   pub record Defines (i : ℕ) : Type 0 where
-    pub down : T (markOf ns i .positive) → T (Bool·beq false (ρ (helperOf v s i)) || rowOf (truths ρ) v s ns i .P)
-    pub up : T (markOf ns i .negative) → T (rowOf (truths ρ) v s ns i .N || Bool·beq true (ρ (helperOf v s i)))
+    pub down : T (markOf ns i .positive) → T (Bool·beq false (ρ (helperOf u i)) || rowOf (truths ρ) (nameOf u) ns i .P)
+    pub up : T (markOf ns i .negative) → T (rowOf (truths ρ) (nameOf u) ns i .N || Bool·beq true (ρ (helperOf u i)))
 
   -- the root's clauses are true, and every definition is
   pub record AllTrue : Type 0 where
-    pub root : T (rowOf (truths ρ) v s ns (length ns - 1) .P)
-    pub defines : (i : ℕ) → i < length ns → renamed s i ≡ true → Defines i
+    pub root : T (rowOf (truths ρ) (nameOf u) ns (length ns - 1) .P)
+    pub defines : (i : ℕ) → i < length ns → renamed (u .set) i ≡ true → Defines i
 
   abbrev True : Part Bool → Type 0
   True p = T (p .content)
 
   abbrev parts : ℕ → List (Part Bool)
-  parts i = definition (truths ρ) v s ns i
+  parts i = definition (truths ρ) u ns i
 
-  definition-true : (i : ℕ) → (renamed s i ≡ true → Defines i) → Every True (parts i)
-  definition-true i d = every-cond (renamed s i) λ t.
-      let r : Defines i = d (true-of (renamed s i) t) in
+  definition-true : (i : ℕ) → (renamed (u .set) i ≡ true → Defines i) → Every True (parts i)
+  definition-true i d = every-cond (renamed (u .set) i) λ t.
+      let r : Defines i = d (true-of (renamed (u .set) i) t) in
       every-append
       (every-cond (halvesOf (markOf ns i) .down) λ m. more (r .down m) none)
       (every-cond (halvesOf (markOf ns i) .up) λ m. more (r .up m) none)
 
-  definition-defines : (i : ℕ) → renamed s i ≡ true → Every True (parts i) → Defines i
+  definition-defines : (i : ℕ) → renamed (u .set) i ≡ true → Every True (parts i) → Defines i
   definition-defines i e d =
       let h : Halves = halvesOf (markOf ns i) in
-      let downs : List (Part Bool) = downPart (truths ρ) v s ns i ∷ [] in
-      let ups : List (Part Bool) = upPart (truths ρ) v s ns i ∷ [] in
-      let all = every-taken (renamed s i) (cond (h .down) downs [] ++ cond (h .up) ups []) (subst T (sym e) tt) d in
+      let downs : List (Part Bool) = downPart (truths ρ) u ns i ∷ [] in
+      let ups : List (Part Bool) = upPart (truths ρ) u ns i ∷ [] in
+      let all = every-taken (renamed (u .set) i) (cond (h .down) downs [] ++ cond (h .up) ups []) (subst T (sym e) tt) d in
       record {
         down = λ m. every-head (every-taken (h .down) downs m (every-left (cond (h .down) downs []) (cond (h .up) ups []) all));
         up = λ m. every-head (every-taken (h .up) ups m (every-right (cond (h .down) downs []) (cond (h .up) ups []) all));
       }
 
   abbrev parts-below : ℕ → List (Part Bool)
-  parts-below n = definitions (truths ρ) v s ns n
+  parts-below n = definitions (truths ρ) u ns n
 
   definitions-true : (n : ℕ) → ((i : ℕ) → i < n → Every True (parts i)) → Every True (parts-below n)
   unfolding definitions
@@ -83,18 +84,18 @@ module _ (ρ : ℕ → Bool) (v : ℕ) (s : List ℕ) (ns : List Node) where
       let r = gather-every (b && p .content) ps t in
       (and-left b (p .content) (r .0), more (and-right b (p .content) (r .0)) (r .1))
 
-  all-of-whole : T (wholeOf (truths ρ) v s ns) → AllTrue
+  all-of-whole : T (wholeOf (truths ρ) u ns) → AllTrue
   all-of-whole t =
-      let e = gather-every true (partsOf (truths ρ) v s ns) t .1 in
+      let e = gather-every true (partsOf (truths ρ) u ns) t .1 in
       record {
         root = every-head e;
         defines = λ i h r. definition-defines i r (definitions-at (length ns) i h (every-tail e));
       }
 
-  whole-of-all : AllTrue → T (wholeOf (truths ρ) v s ns)
+  whole-of-all : AllTrue → T (wholeOf (truths ρ) u ns)
   whole-of-all a =
       let defined = definitions-true (length ns) (λ i h. definition-true i (a .defines i h)) in
-      gather-true true (partsOf (truths ρ) v s ns) tt (more (a .root) defined)
+      gather-true true (partsOf (truths ρ) u ns) tt (more (a .root) defined)
 
-  pub whole-true : T (wholeOf (truths ρ) v s ns) ↔ AllTrue
+  pub whole-true : T (wholeOf (truths ρ) u ns) ↔ AllTrue
   whole-true = (all-of-whole, whole-of-all)

@@ -1,4 +1,4 @@
--- Helpers: the renamed nodes get the numbers after V, one each, in rising node number.
+-- Helpers: the renamed nodes get the numbers after those taken, one each, in rising node number.
 -- Assumes nothing.
 use mathlib.Core.Path.{_≡_, refl, sym, ap}
 use mathlib.Core.Bool.{Bool, true, false, cond}
@@ -8,8 +8,9 @@ use native.Mathlib.Decide.{decLt}
 use native.Mathlib.Omega.{arith}
 use lib.Dec.{eqb, leb}
 use lib.ListN.{length, List·getD-eq-default}
-use borrow.Author.Tests.{eqb-true, eqb-false, leb-true, leb-false}
-use Rattle.clausal.specs.Helpers.{renamed, renamedBelow, helperOf, variablesOf}
+use borrow.Author.Tests.{ne-eqb, eqb-true, eqb-false, leb-true, leb-false}
+use Rattle.formula.specs.Sets.{renamed}
+use Rattle.clausal.specs.Renamings.{renamedBelow, helperOf, variablesOf, Renaming, nameOf}
 
 module _ (s : List ℕ) where
   -- a renamed node is in the set
@@ -44,21 +45,30 @@ module _ (s : List ℕ) where
   pub below-grows : (i n : ℕ) → renamed s i ≡ true → i < n → renamedBelow s i < renamedBelow s n
   below-grows i n e h = omega (arith, below-renamed i e, below-rises (suc i) n h)
 
-module _ (v : ℕ) (s : List ℕ) where
-  -- no helper is an option
-  pub helper-above : (i : ℕ) → v < helperOf v s i
+module _ (u : Renaming) where
+  -- no helper is taken
+  pub helper-above : (i : ℕ) → u .taken < helperOf u i
   helper-above i = omega arith
 
-  -- "in rising node number"
-  pub helper-rising : (i j : ℕ) → renamed s i ≡ true → i < j → helperOf v s i < helperOf v s j
-  helper-rising i j e h = omega (arith, below-grows s i j e h)
+  pub helper-rising : (i j : ℕ) → renamed (u .set) i ≡ true → i < j → helperOf u i < helperOf u j
+  helper-rising i j e h = omega (arith, below-grows (u .set) i j e h)
 
-  -- "Variables reported: V plus the number of helpers"
-  pub helper-most : (i n : ℕ) → renamed s i ≡ true → i < n → helperOf v s i ≤ variablesOf v s n
-  helper-most i n e h = omega (arith, below-grows s i n e h)
+  pub helper-most : (i n : ℕ) → renamed (u .set) i ≡ true → i < n → helperOf u i ≤ variablesOf u n
+  helper-most i n e h = omega (arith, below-grows (u .set) i n e h)
+
+  -- a helper is a number from 1 on
+  pub helper-some : (i : ℕ) → eqb (helperOf u i) 0 ≡ false
+  helper-some i = ne-eqb (helperOf u i) 0 (λ e. omega arith)
+
+  -- the helper as which a node is seen
+  pub name-renamed : (i : ℕ) → renamed (u .set) i ≡ true → nameOf u i ≡ helperOf u i
+  name-renamed i e = ap (λ (b : Bool). cond b (helperOf u i) 0) e
+
+  pub name-plain : (i : ℕ) → renamed (u .set) i ≡ false → nameOf u i ≡ 0
+  name-plain i e = ap (λ (b : Bool). cond b (helperOf u i) 0) e
 
   -- one helper each
-  pub helper-same : (i j : ℕ) → renamed s i ≡ true → renamed s j ≡ true → helperOf v s i ≡ helperOf v s j → i ≡ j
+  pub helper-same : (i j : ℕ) → renamed (u .set) i ≡ true → renamed (u .set) j ≡ true → helperOf u i ≡ helperOf u j → i ≡ j
   helper-same i j e f q = go (decLt i j) (decLt j i)
     where
       go : Dec (i < j) → Dec (j < i) → i ≡ j
@@ -66,29 +76,29 @@ module _ (v : ℕ) (s : List ℕ) where
       go (no h) (yes g) = absurd (omega (arith, helper-rising j i f g))
       go (no h) (no g) = omega arith
 
-  -- "V+1, V+2, ..": each number after V, up to the variables reported, is the helper of a renamed node
+  -- each number after those taken, up to the variables reported, is the helper of a renamed node
   pub record Helped (n x : ℕ) : Type 0 where
     pub node : ℕ
     pub inside : node < n
-    pub renames : renamed s node ≡ true
-    pub is : helperOf v s node ≡ x
+    pub renames : renamed (u .set) node ≡ true
+    pub is : helperOf u node ≡ x
 
-  pub helped : (n x : ℕ) → v < x → x ≤ variablesOf v s n → Helped n x
+  pub helped : (n x : ℕ) → u .taken < x → x ≤ variablesOf u n → Helped n x
   unfolding renamedBelow
   helped zero x h g = absurd (omega arith)
-  helped (suc n) x h g = go (renamed s n) refl (eqb x (helperOf v s n)) refl (λ l. before (helped n x h l))
+  helped (suc n) x h g = go (renamed (u .set) n) refl (eqb x (helperOf u n)) refl (λ l. before (helped n x h l))
     where
       before : Helped n x → Helped (suc n) x
       before r = record { node = r .node; inside = omega (arith, r .inside); renames = r .renames; is = r .is }
 
-      go : (b : Bool) → renamed s n ≡ b → (c : Bool) → eqb x (helperOf v s n) ≡ c → (x ≤ variablesOf v s n → Helped (suc n) x)
+      go : (b : Bool) → renamed (u .set) n ≡ b → (c : Bool) → eqb x (helperOf u n) ≡ c → (x ≤ variablesOf u n → Helped (suc n) x)
           → Helped (suc n) x
       go false e c f ih =
-          let same : renamedBelow s (suc n) ≡ renamedBelow s n + 0 = ap (λ (b : Bool). renamedBelow s n + cond b 1 0) e in
+          let same : renamedBelow (u .set) (suc n) ≡ renamedBelow (u .set) n + 0 = ap (λ (b : Bool). renamedBelow (u .set) n + cond b 1 0) e in
           ih (omega arith)
       go true e false f ih =
-          let more : renamedBelow s (suc n) ≡ renamedBelow s n + 1 = below-renamed s n e in
-          let other = eqb-false x (helperOf v s n) f in
+          let more : renamedBelow (u .set) (suc n) ≡ renamedBelow (u .set) n + 1 = below-renamed (u .set) n e in
+          let other = eqb-false x (helperOf u n) f in
           ih (omega arith)
       go true e true f ih =
-          record { node = n; inside = omega arith; renames = e; is = sym (eqb-true x (helperOf v s n) f) }
+          record { node = n; inside = omega arith; renames = e; is = sym (eqb-true x (helperOf u n) f) }

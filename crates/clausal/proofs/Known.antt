@@ -11,9 +11,9 @@ use Rattle.answer.specs.declared.Answer.the-variants.{Accepted}
 use Rattle.formula.specs.Checks.{checked}
 use Rattle.formula.specs.Nodes.{nodeAt, nodeCount, nodesOf, nodeIn}
 use Rattle.formula.specs.Records.{known, faultOf}
-use Rattle.formula.specs.declared.node.Node.{Node}
 use Rattle.formula.proofs.Laws.Tables.{length-nodesOf, nodeIn-nodesOf}
 use Rattle.formula.proofs.Laws.WellFormed.{accepts}
+use Rattle.formula.specs.declared.node.Node.{Node}
 
 known-right : (v i : ℕ) (n : Node) → faultOf v i n ≡ 0 → known (n .kind) ≡ true
 known-right v i n e = go (known (n .kind)) _ e

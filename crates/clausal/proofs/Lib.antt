@@ -7,11 +7,12 @@ pub mod Rows
 pub mod Clauses
 pub mod Places
 pub mod Helpers
-pub mod Every
 pub mod Names
 pub mod Ceilings
 pub mod Totals
 pub mod Options
+pub mod Renamed
+pub mod Reuse
 pub mod Counts
 pub mod Truths
 pub mod Extended

@@ -13,20 +13,21 @@ use lib.ListN.{length, List·getD-eq-default}
 use borrow.Author.Tests.{eqb-true}
 use Rattle.answer.specs.declared.Answer.{Answer}
 use Rattle.answer.specs.declared.Answer.the-variants.{Accepted, Set}
+use Rattle.laws.specs.Lists.{Every, none, more}
+use Rattle.laws.proofs.Every.{every-append}
 use Rattle.formula.specs.Checks.{checked}
 use Rattle.formula.specs.Nodes.{nodesOf, nodeIn}
-use Rattle.formula.specs.Sets.{setChecked}
-use Rattle.formula.specs.declared.node.Kind.the-variants.{Symbol}
-use Rattle.formula.specs.declared.node.Node.{Node}
+use Rattle.formula.specs.Sets.{setChecked, renamed}
 use Rattle.formula.proofs.Laws.WellFormed.{accepted-well-formed}
 use Rattle.clausal.specs.Algebra.{Algebra, joinAll, clauses}
-use Rattle.clausal.specs.Helpers.{renamed, helperOf, variablesOf}
+use Rattle.clausal.specs.Renamings.{helperOf, variablesOf, Renaming}
 use Rattle.clausal.specs.Literals.{Literal, Clause}
-use Rattle.clausal.specs.Origins.{Origin, option, helper, Every, none, more, Named}
+use Rattle.clausal.specs.Origins.{Origin, option, helper, Named}
 use Rattle.clausal.specs.Output.{outputOf}
-use Rattle.clausal.proofs.Every.{every-append}
 use Rattle.clausal.proofs.Related.{Keeps, related-whole}
 use Rattle.clausal.proofs.Helpers.{renamed-inside, helper-above, helper-most}
+use Rattle.formula.specs.declared.node.Kind.the-variants.{Symbol}
+use Rattle.formula.specs.declared.node.Node.{Node}
 
 -- the names of a join are those of its sides
 module _ (Q : Literal → Type 0) where
@@ -42,19 +43,19 @@ module _ (Q : Literal → Type 0) where
 nothing : Algebra (Unit {0})
 nothing = record { none = tt; empty = tt; unit = λ plain x. tt; cat = λ x y. tt; join = λ x y. tt }
 
-module _ (v : ℕ) (s : List ℕ) (ns : List Node) where
-  named-keeps : Keeps (Origin v s ns) clauses nothing (λ cs u. Named v s ns cs)
+module _ (u : Renaming) (ns : List Node) where
+  named-keeps : Keeps (Origin u ns) clauses nothing (λ cs x. Named u ns cs)
   named-keeps = record {
     none = none;
     empty = more none none;
     unit = λ plain x o. more (more o none) none;
     cat = λ x y z w p q. every-append p q;
-    join = λ x y z w p q. every-join (λ l. Origin v s ns (l .variable)) p q;
+    join = λ x y z w p q. every-join (λ l. Origin u ns (l .variable)) p q;
   }
 
   -- every variable of the output has an origin
-  pub output-named : Named v s ns (outputOf v s ns)
-  output-named = related-whole clauses nothing (λ cs u. Named v s ns cs) v s ns named-keeps
+  pub output-named : Named u ns (outputOf u ns)
+  output-named = related-whole clauses nothing (λ cs x. Named u ns cs) u ns named-keeps
 
 -- a right set is as long as the table
 length-right : (ns : List Node) (s : List ℕ) (x y : ℕ) → setChecked ns s ≡ Accepted x y → length s ≡ length ns
@@ -77,44 +78,32 @@ symbol-inside ns i e = go (decLt i (length ns))
         let z : _≡_ {A = ℕ} 0 1 = cc in
         absurd (omega arith)
 
--- no helper is anybody's option
-pub helper-no-option : (v : ℕ) (s : List ℕ) (i x : ℕ) → x ≤ v → helperOf v s i ≢ x
-helper-no-option v s i x h e = omega (arith, helper-above v s i)
+-- no helper is taken, and so none is anybody's option
+pub helper-no-option : (u : Renaming) (i x : ℕ) → x ≤ u .taken → helperOf u i ≢ x
+helper-no-option u i x h e = omega (arith, helper-above u i)
 
--- an accepted table and a right set
-module _ (t : List ℕ) (v : ℕ) (s : List ℕ)
-    (accepted : checked t v ≡ Accepted 0 0) (right : setChecked (nodesOf t) s ≡ Accepted 0 0) where
-  -- an option: a symbol that the table holds, from 1 to V
-  pub option-range : (i : ℕ) → nodeIn (nodesOf t) i .kind ≡ Symbol
-      → (i < length (nodesOf t)) × (0 < nodeIn (nodesOf t) i .a) × (nodeIn (nodesOf t) i .a ≤ v)
-  option-range i e =
-      let w = accepted-well-formed t v 0 0 accepted .symbols i e in
-      (symbol-inside (nodesOf t) i e, w .0, w .1)
+-- a helper of one formula comes before every helper of a later one
+pub helper-earlier : (u w : Renaming) (n i j : ℕ) → renamed (u .set) i ≡ true → i < n → variablesOf u n ≤ w .taken
+    → helperOf u i < helperOf w j
+helper-earlier u w n i j e h later = omega (arith, helper-most u i n e h, helper-above w j)
 
-  -- a helper: of a node of the table, after V, and no more than the variables reported
-  pub helper-range : (i : ℕ) → renamed s i ≡ true
-      → (i < length (nodesOf t)) × (v < helperOf v s i) × (helperOf v s i ≤ variablesOf v s (length (nodesOf t)))
-  helper-range i e =
-      let h : i < length (nodesOf t) = omega (arith, renamed-inside s i e, length-right (nodesOf t) s 0 0 right) in
-      (h, helper-above v s i, helper-most v s i (length (nodesOf t)) e h)
+-- an accepted table: an option is a symbol that the table holds, from 1 to V
+pub option-range : (t : List ℕ) (v : ℕ) → checked t v ≡ Accepted 0 0 → (i : ℕ) → nodeIn (nodesOf t) i .kind ≡ Symbol
+    → (i < length (nodesOf t)) × (0 < nodeIn (nodesOf t) i .a) × (nodeIn (nodesOf t) i .a ≤ v)
+option-range t v accepted i e =
+    let w = accepted-well-formed t v 0 0 accepted .symbols i e in
+    (symbol-inside (nodesOf t) i e, w .0, w .1)
 
-  -- every variable
-  pub variable-range : (x : ℕ) → Origin v s (nodesOf t) x → (0 < x) × (x ≤ variablesOf v s (length (nodesOf t)))
-  variable-range x (option i e) = let r = option-range i e in (r .1, omega (arith, r .2))
-  variable-range x (helper i e) = let r = helper-range i e in (omega (arith, r .1), r .2)
+-- a right set: a helper is that of a node of the table, after all that is taken, and no more than the variables reported
+pub helper-range : (ns : List Node) (u : Renaming) → setChecked ns (u .set) ≡ Accepted 0 0 → (i : ℕ) → renamed (u .set) i ≡ true
+    → (i < length ns) × (u .taken < helperOf u i) × (helperOf u i ≤ variablesOf u (length ns))
+helper-range ns u right i e =
+    let h : i < length ns = omega (arith, renamed-inside (u .set) i e, length-right ns (u .set) 0 0 right) in
+    (h, helper-above u i, helper-most u i (length ns) e h)
 
--- a second formula, converted with an option count w of no less than the variables reported of the first
-module _ (t : List ℕ) (v : ℕ) (s : List ℕ)
-    (accepted : checked t v ≡ Accepted 0 0) (right : setChecked (nodesOf t) s ≡ Accepted 0 0)
-    (u : List ℕ) (w : ℕ) (r : List ℕ) (later : variablesOf v s (length (nodesOf t)) ≤ w) where
-  -- no helper of the second is a variable of the first
-  pub second-apart : (x : ℕ) → Origin v s (nodesOf t) x → (j : ℕ) → helperOf w r j ≢ x
-  second-apart x o j e = omega (arith, variable-range t v s accepted right x o .1, helper-above w r j)
-
-  -- and no helper of the first is a variable of the second, whose symbols are options of the same project
-  pub first-apart : checked u v ≡ Accepted 0 0 → (i : ℕ) → renamed s i ≡ true
-      → (x : ℕ) → Origin w r (nodesOf u) x → helperOf v s i ≢ x
-  first-apart same i e x (option j k) q =
-      omega (arith, accepted-well-formed u v 0 0 same .symbols j k .1, helper-above v s i)
-  first-apart same i e x (helper j k) q =
-      omega (arith, helper-range t v s accepted right i e .2, helper-above w r j)
+-- every variable, where all options are taken
+module _ (t : List ℕ) (v : ℕ) (u : Renaming) (accepted : checked t v ≡ Accepted 0 0)
+    (right : setChecked (nodesOf t) (u .set) ≡ Accepted 0 0) (all : v ≤ u .taken) where
+  pub variable-range : (x : ℕ) → Origin u (nodesOf t) x → (0 < x) × (x ≤ variablesOf u (length (nodesOf t)))
+  variable-range x (option i e) = let r = option-range t v accepted i e in (r .1, omega (arith, r .2))
+  variable-range x (helper i e) = let r = helper-range (nodesOf t) u right i e in (omega (arith, r .1), r .2)

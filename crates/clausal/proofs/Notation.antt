@@ -5,46 +5,41 @@ use mathlib.Core.List.{List, [], _∷_, _++_}
 use Prim.Native.Nat.{ℕ}
 use lib.Dec.{eqb}
 use lib.ListN.{length, take, replicate}
-use Rattle.laws.specs.Bytes.{little}
 use Rattle.answer.specs.Numbers.{toldOf}
-use Rattle.answer.specs.declared.Answer.{Answer}
 use Rattle.formula.specs.Checks.{checked}
-use Rattle.formula.specs.Nodes.{nodesOf}
+use Rattle.formula.specs.Nodes.{nodeRecord, nodesOf}
 use Rattle.formula.specs.Sets.{setChecked}
-use Rattle.formula.specs.declared.node.Node.{Node}
 use Rattle.clausal.specs.Choosing.{choose}
-use Rattle.clausal.specs.Helpers.{variablesOf}
+use Rattle.clausal.specs.Renamings.{variablesOf, renaming}
 use Rattle.clausal.specs.Literals.{Literal, Clause, clausesBytes}
 use Rattle.clausal.specs.Output.{outputOf}
 use Rattle.clausal.specs.Totals.{Size, sizeOf, trueTotals, totals}
-
--- the five bytes of a node, by the table of kinds
-abbrev node : ℕ → ℕ → ℕ → List ℕ
-node kind a b = kind ∷ little 2 a ++ little 2 b
+use Rattle.answer.specs.declared.Answer.{Answer}
+use Rattle.formula.specs.declared.node.Node.{Node}
 
 abbrev pub false-node : List ℕ
-false-node = node 0 0 0
+false-node = nodeRecord 0 0 0
 
 abbrev pub true-node : List ℕ
-true-node = node 1 0 0
+true-node = nodeRecord 1 0 0
 
 abbrev pub symbol : ℕ → List ℕ
-symbol x = node 2 x 0
+symbol x = nodeRecord 2 x 0
 
 abbrev pub not-of : ℕ → List ℕ
-not-of a = node 3 a 0
+not-of a = nodeRecord 3 a 0
 
 abbrev pub and-of : ℕ → ℕ → List ℕ
-and-of a b = node 4 a b
+and-of a b = nodeRecord 4 a b
 
 abbrev pub or-of : ℕ → ℕ → List ℕ
-or-of a b = node 5 a b
+or-of a b = nodeRecord 5 a b
 
 abbrev pub implies-of : ℕ → ℕ → List ℕ
-implies-of a b = node 6 a b
+implies-of a b = nodeRecord 6 a b
 
 abbrev pub equivalent-of : ℕ → ℕ → List ℕ
-equivalent-of a b = node 7 a b
+equivalent-of a b = nodeRecord 7 a b
 
 -- a plain literal, and a negated one
 abbrev pub p : ℕ → Literal
@@ -53,7 +48,7 @@ p x = record { plain = true; variable = x }
 abbrev pub n : ℕ → Literal
 n x = record { plain = false; variable = x }
 
--- how a set is given: "Nothing is renamed unless a set or an allowance is named"
+-- R14.16: how a set is given
 pub data Given : Type 0 where
   nothing : Given
   renamed : List ℕ → Given
@@ -62,7 +57,7 @@ pub data Given : Type 0 where
 abbrev setBy : ℕ → List Node → Given → List ℕ
 setBy v ns nothing = replicate (length ns) 0
 setBy v ns (renamed s) = s
-setBy v ns (allowed allowance) = choose allowance v ns .chosen
+setBy v ns (allowed allowance) = choose allowance (renaming v []) ns .chosen
 
 -- a table's bytes, V and how the set is given; then what is expected: the set, the variables reported, the clauses,
 -- both totals, the number of clause bytes, and the first of them, as many as are written here
@@ -100,16 +95,16 @@ all test (x ∷ xs) = test x && all test xs
 
 abbrev holdsUnder : Example → List Node → List ℕ → Bool
 holdsUnder e ns s =
-    let v = e .options in
+    let u = renaming (e .options) s in
     accepted (setChecked ns s)
     && same eqb s (e .set)
-    && eqb (variablesOf v s (length ns)) (e .variables)
-    && same (same sameLiteral) (outputOf v s ns) (e .output)
-    && sized (e .clauses) (e .literals) (sizeOf (outputOf v s ns))
-    && sized (e .clauses) (e .literals) (trueTotals v s ns)
-    && sized (e .clauses) (e .literals) (totals v s ns)
-    && eqb (length (clausesBytes (outputOf v s ns))) (e .bytes)
-    && same eqb (take (length (e .first)) (clausesBytes (outputOf v s ns))) (e .first)
+    && eqb (variablesOf u (length ns)) (e .variables)
+    && same (same sameLiteral) (outputOf u ns) (e .output)
+    && sized (e .clauses) (e .literals) (sizeOf (outputOf u ns))
+    && sized (e .clauses) (e .literals) (trueTotals u ns)
+    && sized (e .clauses) (e .literals) (totals u ns)
+    && eqb (length (clausesBytes (outputOf u ns))) (e .bytes)
+    && same eqb (take (length (e .first)) (clausesBytes (outputOf u ns))) (e .first)
 
 -- whether an example comes out as expected: its table and its set are accepted, and each definition gives what is written
 abbrev pub holds : Example → Bool

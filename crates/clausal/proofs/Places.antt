@@ -14,6 +14,7 @@ use Rattle.clausal.specs.Algebra.{clauses}
 use Rattle.clausal.specs.Literals.{Clause}
 use Rattle.clausal.specs.Output.{Part, partsOf, gather, outputOf}
 use Rattle.clausal.specs.Places.{Place, further, placeIn, startOf, contentsOf, countsOf, contentIn, Stands}
+use Rattle.clausal.specs.Renamings.{Renaming}
 use Rattle.clausal.proofs.Clauses.{clause-left, clause-right}
 
 -- the output is the parts' clauses, one part after the other
@@ -21,8 +22,8 @@ gather-contents : (cs : List Clause) (ps : List (Part (List Clause))) → gather
 gather-contents cs [] = sym (append-nil cs)
 gather-contents cs (p ∷ ps) = gather-contents (cs ++ p .content) ps ∙ append-assoc cs (p .content) (contentsOf ps)
 
-pub output-contents : (v : ℕ) (s : List ℕ) (ns : List Node) → outputOf v s ns ≡ contentsOf (partsOf clauses v s ns)
-output-contents v s ns = gather-contents [] (partsOf clauses v s ns)
+pub output-contents : (u : Renaming) (ns : List Node) → outputOf u ns ≡ contentsOf (partsOf clauses u ns)
+output-contents u ns = gather-contents [] (partsOf clauses u ns)
 
 -- every number has its place ..
 pub stands : (ps : List (Part (List Clause))) (k : ℕ) → k < length (contentsOf ps) → Stands ps k (placeIn (countsOf ps) k)
@@ -71,17 +72,17 @@ clause-at ps k p h = go ps k (p .part) (p .number) (h .part) (h .number) (h .sum
         ∙ go ps (k - length (p .content)) j m (omega arith) g (omega arith)
 
 -- of the output
-module _ (v : ℕ) (s : List ℕ) (ns : List Node) (k : ℕ) where
+module _ (u : Renaming) (ns : List Node) (k : ℕ) where
   abbrev parts : List (Part (List Clause))
-  parts = partsOf clauses v s ns
+  parts = partsOf clauses u ns
 
   abbrev place : Place
   place = placeIn (countsOf parts) k
 
-  pub output-stands : k < length (outputOf v s ns) → Stands parts k place
-  output-stands h = stands parts k (subst (λ (cs : List Clause). k < length cs) (output-contents v s ns) h)
+  pub output-stands : k < length (outputOf u ns) → Stands parts k place
+  output-stands h = stands parts k (subst (λ (cs : List Clause). k < length cs) (output-contents u ns) h)
 
-  pub output-clause : k < length (outputOf v s ns)
-      → getD (outputOf v s ns) k [] ≡ getD (contentIn parts (place .part)) (place .number) []
+  pub output-clause : k < length (outputOf u ns)
+      → getD (outputOf u ns) k [] ≡ getD (contentIn parts (place .part)) (place .number) []
   output-clause h =
-      ap (λ (cs : List Clause). getD cs k []) (output-contents v s ns) ∙ clause-at parts k place (output-stands h)
+      ap (λ (cs : List Clause). getD cs k []) (output-contents u ns) ∙ clause-at parts k place (output-stands h)

@@ -1,26 +1,28 @@
 -- The one law: what the five operations keep is kept by every row of every list of nodes, for both signs and every set,
 -- by every part of the output and by the whole. Its instances: totals, ceilings, names and truth.
 -- Assumes nothing.
-use mathlib.Core.Path.{_≡_, refl, _∙_}
+use mathlib.Core.Path.{_≡_, refl, _∙_, subst⁻¹}
 use mathlib.Core.Bool.{Bool, true, false, cond}
 use mathlib.Core.List.{List, [], _∷_, _++_}
 use Prim.Native.Nat.{ℕ, zero, suc, _-_}
-use lib.Dec.{T}
+use native.Mathlib.Omega.{arith}
+use lib.Dec.{T, eqb}
 use lib.ListN.{length, getD}
 use Rattle.laws.proofs.Upward.{Each, none, more, each-at, each-upTo}
 use Rattle.formula.specs.Marks.{toA, toB}
 use Rattle.formula.specs.Nodes.{nodeIn}
 use Rattle.formula.specs.Paths.{has}
+use Rattle.formula.specs.Sets.{renamed}
+use Rattle.formula.proofs.Laws.Marks.{doubled-has}
+use Rattle.clausal.specs.Algebra.{Algebra, Row, unitRow, noRow, rowBy}
+use Rattle.clausal.specs.Renamings.{Renaming, helperOf, nameOf}
+use Rattle.clausal.specs.Origins.{Origin, option, helper}
+use Rattle.clausal.specs.Output.{Part, downPart, upPart, definition, definitions, partsOf, gather, wholeOf}
+use Rattle.clausal.specs.Rows.{seen, rowFrom, rowsOf, rowOf}
 use Rattle.formula.specs.declared.mark.Mark.{Mark}
 use Rattle.formula.specs.declared.node.Kind.{Kind}
 use Rattle.formula.specs.declared.node.Kind.the-variants.{False, True, Symbol, Not, And, Or, Implies, Equivalent, Unknown}
 use Rattle.formula.specs.declared.node.Node.{Node}
-use Rattle.formula.proofs.Laws.Marks.{doubled-has}
-use Rattle.clausal.specs.Algebra.{Algebra, Row, unitRow, noRow, rowBy}
-use Rattle.clausal.specs.Helpers.{renamed, helperOf}
-use Rattle.clausal.specs.Origins.{Origin, option, helper}
-use Rattle.clausal.specs.Output.{Part, downPart, upPart, definition, definitions, partsOf, gather, wholeOf}
-use Rattle.clausal.specs.Rows.{seen, rowFrom, rowsOf, rowOf}
 
 -- a relation that the five operations keep; units are asked for only at known variables
 pub record Keeps {C D : Type 0} (Known : ℕ → Type 0) (A : Algebra C) (B : Algebra D) (Q : C → D → Type 0) : Type 0 where
@@ -78,6 +80,20 @@ module _ {C D : Type 0} (Known : ℕ → Type 0) (A : Algebra C) (B : Algebra D)
           record { P = λ u. search (keeps .cat, keeps .join); N = λ u. search (keeps .cat, keeps .join) }
   under-by Unknown n m x y z w known p q = under-none m
 
+-- a name of a node is its helper, and only a renamed node has one
+pub name-helper : (u : Renaming) (i : ℕ) → eqb (nameOf u i) 0 ≡ false → (renamed (u .set) i ≡ true) × (nameOf u i ≡ helperOf u i)
+name-helper u i = go (renamed (u .set) i) refl
+  where
+    go : (b : Bool) → renamed (u .set) i ≡ b → eqb (cond b (helperOf u i) 0) 0 ≡ false
+        → (renamed (u .set) i ≡ true) × (cond b (helperOf u i) 0 ≡ helperOf u i)
+    go true e f = (e, refl)
+    go false e f = let z : _≡_ {A = ℕ} 0 1 = cc in absurd (omega arith)
+
+named-origin : (u : Renaming) (ns : List Node) (i : ℕ) → eqb (nameOf u i) 0 ≡ false → Origin u ns (nameOf u i)
+named-origin u ns i e =
+    let n = name-helper u i e in
+    subst⁻¹ (Origin u ns) (n .1) (helper i (n .0))
+
 -- two parts from the same place, with related contents
 pub record Parts {C D : Type 0} (Q : C → D → Type 0) (p : Part C) (q : Part D) : Type 0 where
   pub origin : p .origin ≡ q .origin
@@ -90,46 +106,51 @@ each-append : {A B : Type 0} {Q : A → B → Type 0} {x y : List A} {z w : List
 each-append none f = f
 each-append (more q e) f = more q (each-append e f)
 
-module _ {C D : Type 0} (A : Algebra C) (B : Algebra D) (Q : C → D → Type 0) (v : ℕ) (s : List ℕ) (ns : List Node)
-    (keeps : Keeps (Origin v s ns) A B Q) where
-  related-seen : (i : ℕ) (x : Row C) (y : Row D) → Under Q both x y → Under Q both (seen A v s i x) (seen B v s i y)
-  related-seen i x y u = go (renamed s i) refl
+-- the rows: known are the symbols of the table, and every name as which a node is seen
+module _ {C D : Type 0} (Known : ℕ → Type 0) (A : Algebra C) (B : Algebra D) (Q : C → D → Type 0) (keeps : Keeps Known A B Q)
+    (name : ℕ → ℕ) (ns : List Node) (symbol : (i : ℕ) → nodeIn ns i .kind ≡ Symbol → Known (nodeIn ns i .a))
+    (named : (i : ℕ) → eqb (name i) 0 ≡ false → Known (name i)) where
+  related-seen : (i : ℕ) (x : Row C) (y : Row D) → Under Q both x y → Under Q both (seen A name i x) (seen B name i y)
+  related-seen i x y u = go (eqb (name i) 0) refl
     where
-      go : (b : Bool) → renamed s i ≡ b
-          → Under Q both (cond b (unitRow A (helperOf v s i)) x) (cond b (unitRow B (helperOf v s i)) y)
-      go true e = under-unit (Origin v s ns) A B Q keeps both (helperOf v s i) (helper i e)
-      go false e = u
+      go : (b : Bool) → eqb (name i) 0 ≡ b → Under Q both (cond b x (unitRow A (name i))) (cond b y (unitRow B (name i)))
+      go true e = u
+      go false e = under-unit Known A B Q keeps both (name i) (named i e)
 
   related-at : {xs : List (Row C)} {ys : List (Row D)} → Each (Under Q both) xs ys → (i : ℕ)
       → Under Q both (getD xs i (noRow A)) (getD ys i (noRow B))
-  related-at e i = each-at (Under Q both) (noRow A) (noRow B) (under-none (Origin v s ns) A B Q keeps both) e i
+  related-at e i = each-at (Under Q both) (noRow A) (noRow B) (under-none Known A B Q keeps both) e i
 
-  related-rows : Each (Under Q both) (rowsOf A v s ns) (rowsOf B v s ns)
+  related-rows : Each (Under Q both) (rowsOf A name ns) (rowsOf B name ns)
   related-rows = each-upTo (Under Q both) _ _ step (length ns)
     where
       step : (xs : List (Row C)) (ys : List (Row D)) (i : ℕ) → Each (Under Q both) xs ys
-          → Under Q both (rowFrom A v s ns xs i) (rowFrom B v s ns ys i)
+          → Under Q both (rowFrom A name ns xs i) (rowFrom B name ns ys i)
       step xs ys i e =
           let node : Node = nodeIn ns i in
-          under-by (Origin v s ns) A B Q keeps (node .kind) (node .a) both _ _ _ _ (option i)
-          (child (node .a)) (child (node .b))
+          under-by Known A B Q keeps (node .kind) (node .a) both _ _ _ _ (symbol i) (child (node .a)) (child (node .b))
         where
           child : {m : Mark} (j : ℕ)
-              → Under Q m (seen A v s j (getD xs j (noRow A))) (seen B v s j (getD ys j (noRow B)))
+              → Under Q m (seen A name j (getD xs j (noRow A))) (seen B name j (getD ys j (noRow B)))
           child j =
               let u = related-seen j _ _ (related-at e j) in
               record { P = λ t. u .P tt; N = λ t. u .N tt }
 
   -- every row, both signs
-  pub related-row : (i : ℕ) → Under Q both (rowOf A v s ns i) (rowOf B v s ns i)
-  related-row i = related-at related-rows i
+  pub related-row-by : (i : ℕ) → Under Q both (rowOf A name ns i) (rowOf B name ns i)
+  related-row-by i = related-at related-rows i
 
-  related-down : (i : ℕ) → renamed s i ≡ true → Parts Q (downPart A v s ns i) (downPart B v s ns i)
+module _ {C D : Type 0} (A : Algebra C) (B : Algebra D) (Q : C → D → Type 0) (u : Renaming) (ns : List Node)
+    (keeps : Keeps (Origin u ns) A B Q) where
+  pub related-row : (i : ℕ) → Under Q both (rowOf A (nameOf u) ns i) (rowOf B (nameOf u) ns i)
+  related-row i = related-row-by (Origin u ns) A B Q keeps (nameOf u) ns option (named-origin u ns) i
+
+  related-down : (i : ℕ) → renamed (u .set) i ≡ true → Parts Q (downPart A u ns i) (downPart B u ns i)
   related-down i e =
       let row = related-row i .P tt in
       record { origin = refl; helper = refl; direction = refl; content = search (keeps .join, keeps .unit, helper) }
 
-  related-up : (i : ℕ) → renamed s i ≡ true → Parts Q (upPart A v s ns i) (upPart B v s ns i)
+  related-up : (i : ℕ) → renamed (u .set) i ≡ true → Parts Q (upPart A u ns i) (upPart B u ns i)
   related-up i e =
       let row = related-row i .N tt in
       record { origin = refl; helper = refl; direction = refl; content = search (keeps .join, keeps .unit, helper) }
@@ -145,10 +166,10 @@ module _ {C D : Type 0} (A : Algebra C) (B : Algebra D) (Q : C → D → Type 0)
   each-two true false true p r q t f g = more (g refl) none
   each-two true false false p r q t f g = none
 
-  related-definition : (i : ℕ) → Each (Parts Q) (definition A v s ns i) (definition B v s ns i)
+  related-definition : (i : ℕ) → Each (Parts Q) (definition A u ns i) (definition B u ns i)
   related-definition i = search (each-two, related-down, related-up)
 
-  related-definitions : (n : ℕ) → Each (Parts Q) (definitions A v s ns n) (definitions B v s ns n)
+  related-definitions : (n : ℕ) → Each (Parts Q) (definitions A u ns n) (definitions B u ns n)
   unfolding definitions
   related-definitions zero = none
   related-definitions (suc n) =
@@ -157,7 +178,7 @@ module _ {C D : Type 0} (A : Algebra C) (B : Algebra D) (Q : C → D → Type 0)
       search each-append
 
   -- every part
-  pub related-parts : Each (Parts Q) (partsOf A v s ns) (partsOf B v s ns)
+  pub related-parts : Each (Parts Q) (partsOf A u ns) (partsOf B u ns)
   related-parts =
       let root = related-row (length ns - 1) .P tt in
       more (record { origin = refl; helper = refl; direction = refl; content = root }) (related-definitions (length ns))
@@ -168,7 +189,7 @@ module _ {C D : Type 0} (A : Algebra C) (B : Algebra D) (Q : C → D → Type 0)
   related-gather x y q (more p e) = related-gather _ _ (keeps .cat _ _ _ _ q (p .content)) e
 
   -- the whole output
-  pub related-whole : Q (wholeOf A v s ns) (wholeOf B v s ns)
+  pub related-whole : Q (wholeOf A u ns) (wholeOf B u ns)
   related-whole = related-gather _ _ (keeps .none) related-parts
 
 -- a function that the five operations keep, as a relation

@@ -1,26 +1,29 @@
 -- The row equation: a node's row is the rule at its children's rows, as they are seen; and the rows made first stay.
 -- Assumes nothing.
-use Rattle.formula.specs.Records.{Below}
+use Rattle.laws.specs.Lists.{upTo}
+use Rattle.laws.proofs.Upward.{length-upTo, take-upTo, getD-upTo}
+use Rattle.formula.specs.Inner.Right.{Below}
+use Rattle.formula.specs.Marks.{unmarked, toA, toB, markIn, passOn}
+use Rattle.formula.specs.Nodes.{nodeIn}
+use Rattle.formula.specs.Paths.{has}
+use Rattle.formula.specs.Sets.{renamed}
+use Rattle.formula.proofs.Laws.Marks.{unmarked-has, Passed, passed}
+use Rattle.clausal.specs.Algebra.{Algebra, Row, unitRow, noRow, rowBy}
+use Rattle.clausal.specs.Rows.{seen, rowFrom, rowsOf, rowOf}
+use Rattle.clausal.specs.Renamings.{Renaming, helperOf, nameOf}
+use Rattle.clausal.proofs.Helpers.{helper-some, name-renamed, name-plain}
+use Rattle.clausal.proofs.Related.{Keeps, Under, both, under-by}
 use mathlib.Core.Path.{_≡_, refl, sym, ap, _∙_, subst}
-use mathlib.Core.Bool.{Bool, true, false}
+use mathlib.Core.Bool.{Bool, true, false, cond}
 use mathlib.Core.List.{List}
 use Prim.Native.Nat.{ℕ, _≤_, _<_}
 use native.Mathlib.Decide.{decLt}
 use native.Mathlib.Omega.{arith}
-use lib.Dec.{T}
+use lib.Dec.{T, eqb}
 use lib.ListN.{length, getD, take, replicate, length-replicate, List·getD-eq-default}
 use lib.Seq.{getD-take}
-use Rattle.laws.specs.Upward.{upTo}
-use Rattle.laws.proofs.Upward.{length-upTo, take-upTo, getD-upTo}
-use Rattle.formula.specs.Marks.{unmarked, toA, toB, markIn, passOn}
-use Rattle.formula.specs.Nodes.{nodeIn}
-use Rattle.formula.specs.Paths.{has}
 use Rattle.formula.specs.declared.mark.Mark.{Mark}
 use Rattle.formula.specs.declared.node.Node.{Node}
-use Rattle.formula.proofs.Laws.Marks.{unmarked-has, Passed, passed}
-use Rattle.clausal.specs.Algebra.{Algebra, Row, noRow, rowBy}
-use Rattle.clausal.specs.Rows.{seen, rowFrom, rowsOf, rowOf}
-use Rattle.clausal.proofs.Related.{Keeps, Under, both, under-by}
 
 -- what a node passes on goes to children below it: in a list of as many nodes as stand below it, it has to show
 module _ (k : ℕ) (n : Node) (m : Mark) (b : Below k n) where
@@ -73,29 +76,42 @@ module _ {C : Type 0} (A : Algebra C) where
       (under-same _ _ _ (λ z t. e (n .b) (b-below i n both b z t))) in
       λ j. record { P = u .P tt j; N = u .N tt j }
 
-module _ {C : Type 0} (A : Algebra C) (v : ℕ) (s : List ℕ) (ns : List Node) where
-  pub length-rows : length (rowsOf A v s ns) ≡ length ns
-  length-rows = length-upTo (rowFrom A v s ns) (length ns)
+module _ {C : Type 0} (A : Algebra C) (name : ℕ → ℕ) (ns : List Node) where
+  pub length-rows : length (rowsOf A name ns) ≡ length ns
+  length-rows = length-upTo (rowFrom A name ns) (length ns)
 
-  pub row-past : (i : ℕ) → length ns ≤ i → rowOf A v s ns i ≡ noRow A
-  row-past i h = List·getD-eq-default (rowsOf A v s ns) (noRow A) (omega (arith, length-rows))
+  pub row-past : (i : ℕ) → length ns ≤ i → rowOf A name ns i ≡ noRow A
+  row-past i h = List·getD-eq-default (rowsOf A name ns) (noRow A) (omega (arith, length-rows))
 
   -- the rows of the nodes below i
-  pub take-rows : (i : ℕ) → i ≤ length ns → take i (rowsOf A v s ns) ≡ upTo (rowFrom A v s ns) i
-  take-rows i h = take-upTo (rowFrom A v s ns) i (length ns) h
+  pub take-rows : (i : ℕ) → i ≤ length ns → take i (rowsOf A name ns) ≡ upTo (rowFrom A name ns) i
+  take-rows i h = take-upTo (rowFrom A name ns) i (length ns) h
 
-  pub getD-rows : (i j : ℕ) → i ≤ length ns → j < i → getD (upTo (rowFrom A v s ns) i) j (noRow A) ≡ rowOf A v s ns j
+  pub getD-rows : (i j : ℕ) → i ≤ length ns → j < i → getD (upTo (rowFrom A name ns) i) j (noRow A) ≡ rowOf A name ns j
   getD-rows i j h g =
       ap (λ (l : List (Row C)). getD l j (noRow A)) (sym (take-rows i h))
-      ∙ getD-take i (rowsOf A v s ns) j (noRow A) g
+      ∙ getD-take i (rowsOf A name ns) j (noRow A) g
 
   -- a row is made of the rows before it ..
-  pub row-from : (i : ℕ) → i < length ns → rowOf A v s ns i ≡ rowFrom A v s ns (upTo (rowFrom A v s ns) i) i
-  row-from i h = getD-upTo (rowFrom A v s ns) (noRow A) i (length ns) h
+  pub row-from : (i : ℕ) → i < length ns → rowOf A name ns i ≡ rowFrom A name ns (upTo (rowFrom A name ns) i) i
+  row-from i h = getD-upTo (rowFrom A name ns) (noRow A) i (length ns) h
 
   -- .. and so of its children's rows, as they are seen
   abbrev pub seenOf : ℕ → Row C
-  seenOf j = seen A v s j (rowOf A v s ns j)
+  seenOf j = seen A name j (rowOf A name ns j)
 
-  pub row-at : (i : ℕ) → i < length ns → Below i (nodeIn ns i) → rowOf A v s ns i ≡ ruleAt A (nodeIn ns i) seenOf
-  row-at i h b = row-from i h ∙ rule-same A i (nodeIn ns i) b _ _ (λ j g. ap (seen A v s j) (getD-rows i j (omega arith) g))
+  pub row-at : (i : ℕ) → i < length ns → Below i (nodeIn ns i) → rowOf A name ns i ≡ ruleAt A (nodeIn ns i) seenOf
+  row-at i h b = row-from i h ∙ rule-same A i (nodeIn ns i) b _ _ (λ j g. ap (seen A name j) (getD-rows i j (omega arith) g))
+
+-- a node as a child: under a renaming it is seen as its helper, or as itself
+module _ {C : Type 0} (A : Algebra C) (u : Renaming) (i : ℕ) (row : Row C) where
+  see : ℕ → Row C
+  see name = cond (eqb name 0) row (unitRow A name)
+
+  pub seen-plain : renamed (u .set) i ≡ false → seen A (nameOf u) i row ≡ row
+  unfolding see
+  seen-plain e = ap see (name-plain u i e)
+
+  pub seen-renamed : renamed (u .set) i ≡ true → seen A (nameOf u) i row ≡ unitRow A (helperOf u i)
+  unfolding see
+  seen-renamed e = ap see (name-renamed u i e) ∙ ap (λ (b : Bool). cond b row (unitRow A (helperOf u i))) (helper-some u i)

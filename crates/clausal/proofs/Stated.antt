@@ -8,17 +8,15 @@ use mathlib.Core.List.{List, [], _∷_, _++_}
 use Prim.Native.Nat.{ℕ, zero, suc, _+_, _*_}
 use lib.Dec.{T, eqb}
 use lib.ListN.{length}
-use Rattle.laws.specs.First.{firstFrom}
-use Rattle.laws.specs.Upward.{upTo}
+use Rattle.laws.specs.Lists.{firstFrom, upTo}
 use Rattle.formula.specs.Checks.{checked}
 use Rattle.formula.specs.Marks.{downFrom}
 use Rattle.formula.specs.Nodes.{nodesOf}
 use Rattle.formula.specs.Sets.{setChecked}
-use Rattle.clausal.specs.Helpers.{renamedBelow}
+use Rattle.clausal.specs.Renamings.{renamedBelow, renaming}
 use Rattle.clausal.specs.Output.{definitions, outputOf}
 use Rattle.clausal.specs.Totals.{trueTotals, totals}
-use Rattle.clausal.proofs.Notation.{all, accepted, sized}
-use Rattle.clausal.proofs.Notation.{false-node, true-node, symbol, not-of, and-of, or-of, equivalent-of}
+use Rattle.clausal.proofs.Notation.{all, accepted, sized, false-node, true-node, symbol, not-of, and-of, or-of, equivalent-of}
 
 -- a table's bytes, V, a set, and the number of clauses
 record Count : Type 0 where
@@ -31,8 +29,8 @@ abbrev counted : Count → Bool
 counted c =
     accepted (checked (c .table) (c .options))
     && accepted (setChecked (nodesOf (c .table)) (c .set))
-    && eqb (length (outputOf (c .options) (c .set) (nodesOf (c .table)))) (c .clauses)
-    && eqb (totals (c .options) (c .set) (nodesOf (c .table)) .clauses) (c .clauses)
+    && eqb (length (outputOf (renaming (c .options) (c .set)) (nodesOf (c .table)))) (c .clauses)
+    && eqb (totals (renaming (c .options) (c .set)) (nodesOf (c .table)) .clauses) (c .clauses)
 
 -- r equivalent s
 abbrev equivalence : List ℕ
@@ -113,8 +111,8 @@ record Reading : Type 0 where
 abbrev readRight : Reading → Bool
 readRight r =
     accepted (checked (r .table) 1)
-    && sized (r .clauses) (r .literals) (trueTotals 1 [] (nodesOf (r .table)))
-    && sized (r .clausesRead) (r .literalsRead) (totals 1 [] (nodesOf (r .table)))
+    && sized (r .clauses) (r .literals) (trueTotals (renaming 1 []) (nodesOf (r .table)))
+    && sized (r .clausesRead) (r .literalsRead) (totals (renaming 1 []) (nodesOf (r .table)))
 
 -- s1, then an or of the node before with itself, k times
 abbrev ors : ℕ → List ℕ

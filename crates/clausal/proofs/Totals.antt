@@ -8,15 +8,16 @@ use native.Mathlib.Nat.{zero-mul}
 use native.Mathlib.Omega.{arith}
 use lib.Dec.{lit<}
 use lib.ListN.{length, length-append, length-map}
-use Rattle.laws.specs.Caps.{cap}
-use Rattle.formula.specs.declared.node.Node.{Node}
+use Rattle.laws.specs.Numbers.{cap}
 use Rattle.clausal.specs.Algebra.{joinAll, clauses}
 use Rattle.clausal.specs.Literals.{Clause}
 use Rattle.clausal.specs.Output.{outputOf}
 use Rattle.clausal.specs.Rows.{rowOf}
 use Rattle.clausal.specs.Totals.{Size, literalsIn, sizeOf, sizes, clauseCeiling, literalCeiling, shown, trueTotals, totals}
-use Rattle.clausal.proofs.Related.{Keeps, keeps-of-map, related-row, related-whole}
+use Rattle.clausal.specs.Renamings.{Renaming}
+use Rattle.clausal.proofs.Related.{Keeps, keeps-of-map, related-row-by, related-whole}
 use Rattle.clausal.proofs.Ceilings.{read-under, read-over, capped-whole}
+use Rattle.formula.specs.declared.node.Node.{Node}
 
 -- one left clause with each right clause
 abbrev joinOne : Clause → List Clause → List Clause
@@ -48,47 +49,47 @@ sizes-keeps Known = keeps-of-map Known clauses sizes sizeOf refl refl (λ plain 
     (λ cs ds. λ i. record { clauses = length-append cs ds i; literals = literals-append cs ds i })
     (λ cs ds. λ i. record { clauses = length-join cs ds i; literals = literals-join cs ds i })
 
-module _ (v : ℕ) (s : List ℕ) (ns : List Node) where
-  -- P(n) and N(n) of every node have the true totals
-  pub size-row : (i : ℕ)
-      → record { P = sizeOf (rowOf clauses v s ns i .P); N = sizeOf (rowOf clauses v s ns i .N) } ≡ rowOf sizes v s ns i
-  size-row i =
-      let u = related-row clauses sizes (λ cs x. sizeOf cs ≡ x) v s ns (sizes-keeps _) i in
-      λ j. record { P = u .P tt j; N = u .N tt j }
+-- P(n) and N(n) of every node have the true totals
+pub size-row : (name : ℕ → ℕ) (ns : List Node) (i : ℕ)
+    → record { P = sizeOf (rowOf clauses name ns i .P); N = sizeOf (rowOf clauses name ns i .N) } ≡ rowOf sizes name ns i
+size-row name ns i =
+    let r = related-row-by (λ x. Unit {0}) clauses sizes (λ cs x. sizeOf cs ≡ x) (sizes-keeps _) name ns (λ j e. tt) (λ j e. tt) i in
+    λ j. record { P = r .P tt j; N = r .N tt j }
 
+module _ (u : Renaming) (ns : List Node) where
   -- the output has the true totals
-  pub size-output : sizeOf (outputOf v s ns) ≡ trueTotals v s ns
-  size-output = related-whole clauses sizes (λ cs x. sizeOf cs ≡ x) v s ns (sizes-keeps _)
+  pub size-output : sizeOf (outputOf u ns) ≡ trueTotals u ns
+  size-output = related-whole clauses sizes (λ cs x. sizeOf cs ≡ x) u ns (sizes-keeps _)
 
   -- the totals as reported are the true totals, read at the ceilings
-  pub totals-shown : totals v s ns ≡ shown (trueTotals v s ns)
-  totals-shown = capped-whole clauseCeiling literalCeiling (lit< tt) (lit< tt) v s ns
+  pub totals-shown : totals u ns ≡ shown (trueTotals u ns)
+  totals-shown = capped-whole clauseCeiling literalCeiling (lit< tt) (lit< tt) u ns
 
-  pub totals-output : totals v s ns ≡ shown (sizeOf (outputOf v s ns))
+  pub totals-output : totals u ns ≡ shown (sizeOf (outputOf u ns))
   totals-output = totals-shown ∙ ap shown (sym size-output)
 
   -- "A clause total is read at a ceiling of 65,535 (that or more shows as 65,535)"
-  pub clauses-read : totals v s ns .clauses ≡ cap clauseCeiling (length (outputOf v s ns))
+  pub clauses-read : totals u ns .clauses ≡ cap clauseCeiling (length (outputOf u ns))
   clauses-read = ap (λ (x : Size). x .clauses) totals-output
 
   -- "A literal total is stated only where its clause total is below 65,535 .."
-  pub literals-stated : length (outputOf v s ns) < clauseCeiling
-      → totals v s ns .literals ≡ cap literalCeiling (literalsIn (outputOf v s ns))
+  pub literals-stated : length (outputOf u ns) < clauseCeiling
+      → totals u ns .literals ≡ cap literalCeiling (literalsIn (outputOf u ns))
   literals-stated h =
-      let read = read-under clauseCeiling literalCeiling (lit< tt) (lit< tt) (sizeOf (outputOf v s ns)) h in
+      let read = read-under clauseCeiling literalCeiling (lit< tt) (lit< tt) (sizeOf (outputOf u ns)) h in
       ap (λ (x : Size). x .literals) (totals-output ∙ read)
 
   -- ".. otherwise it is reported as 1,000,000"
-  pub literals-not-stated : clauseCeiling ≤ length (outputOf v s ns) → totals v s ns .literals ≡ literalCeiling
+  pub literals-not-stated : clauseCeiling ≤ length (outputOf u ns) → totals u ns .literals ≡ literalCeiling
   literals-not-stated h =
-      let read = read-over clauseCeiling literalCeiling (lit< tt) (lit< tt) (sizeOf (outputOf v s ns)) h in
+      let read = read-over clauseCeiling literalCeiling (lit< tt) (lit< tt) (sizeOf (outputOf u ns)) h in
       ap (λ (x : Size). x .literals) (totals-output ∙ read)
 
   -- refusal 5 is decided by the true total
-  pub clauses-refused : (clauseCeiling ≤ length (outputOf v s ns)) ↔ (totals v s ns .clauses ≡ clauseCeiling)
+  pub clauses-refused : (clauseCeiling ≤ length (outputOf u ns)) ↔ (totals u ns .clauses ≡ clauseCeiling)
   clauses-refused = (λ h. clauses-read ∙ omega arith, λ e. omega (arith, clauses-read))
 
   -- and refusal 6, where 5 is not given
-  pub literals-refused : length (outputOf v s ns) < clauseCeiling
-      → (literalCeiling ≤ literalsIn (outputOf v s ns)) ↔ (totals v s ns .literals ≡ literalCeiling)
+  pub literals-refused : length (outputOf u ns) < clauseCeiling
+      → (literalCeiling ≤ literalsIn (outputOf u ns)) ↔ (totals u ns .literals ≡ literalCeiling)
   literals-refused h = (λ g. literals-stated h ∙ omega arith, λ e. omega (arith, literals-stated h))

@@ -4,24 +4,29 @@
 use mathlib.Core.Path.{_≡_, refl, sym, ap, _∙_}
 use mathlib.Core.Bool.{Bool, true, false, not, _&&_, _||_, Bool·beq, and-assoc, or-assoc, or-false, and-true, or-true, or-and-distrib-left, or-and-distrib-right}
 use mathlib.Core.List.{List, [], _∷_, _++_, map}
-use Prim.Native.Nat.{ℕ, _<_}
+use Prim.Native.Nat.{ℕ, _<_, _≤_}
 use native.Mathlib.Omega.{arith}
 use lib.ListN.{length, getD}
 use lib.Seq.{getD-take}
-use Rattle.laws.specs.Upward.{upTo}
-use Rattle.laws.proofs.Upward.{take-upTo, getD-upTo}
-use Rattle.formula.specs.Nodes.{nodeIn}
-use Rattle.formula.specs.Records.{known, Below}
+use Rattle.laws.specs.Lists.{upTo}
+use Rattle.laws.proofs.Upward.{Each, each-at, each-upTo, take-upTo, getD-upTo}
+use Rattle.answer.specs.declared.Answer.the-variants.{Accepted}
+use Rattle.formula.specs.Checks.{checked}
+use Rattle.formula.proofs.Laws.WellFormed.{accepted-well-formed}
+use Rattle.formula.specs.Nodes.{nodesOf, nodeIn}
+use Rattle.formula.specs.Records.{known}
+use Rattle.formula.specs.Inner.Right.{Below}
 use Rattle.formula.specs.Truths.{truthBy, truthFrom, truthsOf, truthOf}
-use Rattle.formula.specs.declared.node.Kind.{Kind}
-use Rattle.formula.specs.declared.node.Kind.the-variants.{False, True, Symbol, Not, And, Or, Implies, Equivalent, Unknown}
-use Rattle.formula.specs.declared.node.Node.{Node}
 use Rattle.clausal.specs.Algebra.{Row, rowBy, joinAll, clauses}
 use Rattle.clausal.specs.Literals.{Clause}
 use Rattle.clausal.specs.Output.{wholeOf, outputOf}
 use Rattle.clausal.specs.Satisfies.{literalTrue, clauseTrue, satisfies, truths}
+use Rattle.clausal.specs.Renamings.{Renaming}
 use Rattle.clausal.proofs.Related.{Keeps, keeps-of-map, related-whole}
 use Rattle.clausal.proofs.Rows.{ruleAt, rule-same}
+use Rattle.formula.specs.declared.node.Kind.{Kind}
+use Rattle.formula.specs.declared.node.Kind.the-variants.{False, True, Symbol, Not, And, Or, Implies, Equivalent, Unknown}
+use Rattle.formula.specs.declared.node.Node.{Node}
 
 module _ (ρ : ℕ → Bool) where
   clause-append : (c d : Clause) → clauseTrue ρ (c ++ d) ≡ (clauseTrue ρ c || clauseTrue ρ d)
@@ -55,8 +60,8 @@ module _ (ρ : ℕ → Bool) where
       satisfies-append satisfies-join
 
   -- a row satisfies the output where the output, collected as truth, is true
-  pub satisfies-output : (v : ℕ) (s : List ℕ) (ns : List Node) → satisfies ρ (outputOf v s ns) ≡ wholeOf (truths ρ) v s ns
-  satisfies-output v s ns = related-whole clauses (truths ρ) (λ cs b. satisfies ρ cs ≡ b) v s ns (satisfies-keeps _)
+  pub satisfies-output : (u : Renaming) (ns : List Node) → satisfies ρ (outputOf u ns) ≡ wholeOf (truths ρ) u ns
+  satisfies-output u ns = related-whole clauses (truths ρ) (λ cs b. satisfies ρ cs ≡ b) u ns (satisfies-keeps _)
 
 -- a truth value as a row: itself, and its negation
 abbrev pub signed : Bool → Row Bool
@@ -103,3 +108,31 @@ module _ (ρ : ℕ → Bool) where
         ap signed (getD-upTo (truthFrom ρ ns) false i (length ns) h)
         ∙ sym (truth-by (nodeIn ns i .kind) (nodeIn ns i .a) _ _ k)
         ∙ rule-same (truths ρ) i (nodeIn ns i) b (λ j. signed (earlier j)) _ (λ j g. ap signed (before j g))
+
+-- a formula reads a row only at the symbols of its table
+module _ (ρ τ : ℕ → Bool) where
+  same-by : (k : Kind) (n : ℕ) {x y z w : Bool} → (k ≡ Symbol → ρ n ≡ τ n) → x ≡ z → y ≡ w → truthBy k (ρ n) x y ≡ truthBy k (τ n) z w
+  same-by False n s p q = refl
+  same-by True n s p q = refl
+  same-by Symbol n s p q = s refl
+  same-by Not n s p q = λ i. not (p i)
+  same-by And n s p q = λ i. p i && q i
+  same-by Or n s p q = λ i. p i || q i
+  same-by Implies n s p q = λ i. not (p i) || q i
+  same-by Equivalent n s p q = λ i. Bool·beq (p i) (q i)
+  same-by Unknown n s p q = refl
+
+  pub truth-same : (ns : List Node) → ((i : ℕ) → nodeIn ns i .kind ≡ Symbol → ρ (nodeIn ns i .a) ≡ τ (nodeIn ns i .a))
+      → (i : ℕ) → truthOf ρ ns i ≡ truthOf τ ns i
+  truth-same ns s i = each-at _≡_ false false refl (each-upTo _≡_ (truthFrom ρ ns) (truthFrom τ ns) step (length ns)) i
+    where
+      step : (xs ys : List Bool) (j : ℕ) → Each _≡_ xs ys → truthFrom ρ ns xs j ≡ truthFrom τ ns ys j
+      step xs ys j e =
+          let n : Node = nodeIn ns j in
+          same-by (n .kind) (n .a) (s j) (each-at _≡_ false false refl e (n .a)) (each-at _≡_ false false refl e (n .b))
+
+-- so a row of the options 1 to V alone is enough for an accepted table
+pub truth-options : (t : List ℕ) (v : ℕ) → checked t v ≡ Accepted 0 0 → (ρ τ : ℕ → Bool)
+    → ((x : ℕ) → 0 < x → x ≤ v → ρ x ≡ τ x) → (i : ℕ) → truthOf ρ (nodesOf t) i ≡ truthOf τ (nodesOf t) i
+truth-options t v accepted ρ τ same i =
+    truth-same ρ τ (nodesOf t) (λ j e. let r = accepted-well-formed t v 0 0 accepted .symbols j e in same (nodeIn (nodesOf t) j .a) (r .0) (r .1)) i

@@ -1,11 +1,11 @@
--- "Clauses of a node": the five ways in which a clause list comes about, and the rule of a node, once for whatever is collected.
+-- R4: the five ways in which a clause list comes about, and the rule of a node, once for whatever is collected.
 -- Assumes nothing: these are definitions.
 use mathlib.Core.Bool.{Bool, true, false}
 use mathlib.Core.List.{List, [], _∷_, _++_, map}
 use Prim.Native.Nat.{ℕ}
 use Rattle.formula.specs.declared.node.Kind.{Kind}
 use Rattle.formula.specs.declared.node.Kind.the-variants.{False, True, Symbol, Not, And, Or, Implies, Equivalent, Unknown}
-use Rattle.clausal.specs.Literals.{Literal, Clause}
+use Rattle.clausal.specs.Literals.{Clause}
 
 -- no clause, one empty clause, one clause of one literal, a list followed by another, and the join of two
 pub record Algebra (C : Type 0) : Type 0 where
@@ -15,12 +15,12 @@ pub record Algebra (C : Type 0) : Type 0 where
   pub cat : C → C → C
   pub join : C → C → C
 
--- P and N of a node
+-- R4.1: P and N of a node
 pub record Row (C : Type 0) : Type 0 where
   pub P : C
   pub N : C
 
--- the row of a symbol, and of a renamed node seen as a child
+-- R4.4, R4.9: the row of a symbol, and of a renamed node seen as a child
 abbrev pub unitRow : {C : Type 0} → Algebra C → ℕ → Row C
 unitRow A s = record { P = A .unit true s; N = A .unit false s }
 
@@ -28,7 +28,7 @@ unitRow A s = record { P = A .unit true s; N = A .unit false s }
 abbrev pub noRow : {C : Type 0} → Algebra C → Row C
 noRow A = record { P = A .none; N = A .none }
 
--- the rule of a node: s is its symbol, x and y are its children's rows
+-- R4.9 to R4.16: the rule of a node; s is its symbol, x and y are its children's rows
 abbrev pub rowBy : {C : Type 0} → Algebra C → Kind → ℕ → Row C → Row C → Row C
 rowBy A False s x y = record { P = A .empty; N = A .none }
 rowBy A True s x y = record { P = A .none; N = A .empty }
@@ -43,7 +43,7 @@ rowBy A Equivalent s x y = record {
 }
 rowBy A Unknown s x y = noRow A
 
--- "each left clause in turn with each right clause; left literals come first"
+-- R4.3
 abbrev pub joinAll : List Clause → List Clause → List Clause
 joinAll [] ds = []
 joinAll (c ∷ cs) ds = map (λ d. c ++ d) ds ++ joinAll cs ds

@@ -1,25 +1,22 @@
--- The naming rule: where a variable of the output comes from.
+-- R3.10, R3.11, R12.8: where a variable of the output comes from.
 -- Assumes nothing: these are definitions.
 use mathlib.Core.Path.{_≡_}
 use mathlib.Core.Bool.{true}
-use mathlib.Core.List.{List, [], _∷_}
+use mathlib.Core.List.{List}
 use Prim.Native.Nat.{ℕ}
+use Rattle.laws.specs.Lists.{Every}
 use Rattle.formula.specs.Nodes.{nodeIn}
+use Rattle.formula.specs.Sets.{renamed}
+use Rattle.clausal.specs.Literals.{Clause}
+use Rattle.clausal.specs.Renamings.{Renaming, helperOf}
 use Rattle.formula.specs.declared.node.Kind.the-variants.{Symbol}
 use Rattle.formula.specs.declared.node.Node.{Node}
-use Rattle.clausal.specs.Helpers.{renamed, helperOf}
-use Rattle.clausal.specs.Literals.{Clause}
 
 -- a variable is an option, the symbol of a node of the table; or it is the helper of a renamed node; and nothing else
-pub data Origin (v : ℕ) (s : List ℕ) (ns : List Node) : ℕ → Type 0 where
-  option : (i : ℕ) → nodeIn ns i .kind ≡ Symbol → Origin v s ns (nodeIn ns i .a)
-  helper : (i : ℕ) → renamed s i ≡ true → Origin v s ns (helperOf v s i)
-
--- what holds of every element of a list
-pub data Every {A : Type 0} (Q : A → Type 0) : List A → Type 0 where
-  none : Every Q []
-  more : {x : A} {xs : List A} → Q x → Every Q xs → Every Q (x ∷ xs)
+pub data Origin (u : Renaming) (ns : List Node) : ℕ → Type 0 where
+  option : (i : ℕ) → nodeIn ns i .kind ≡ Symbol → Origin u ns (nodeIn ns i .a)
+  helper : (i : ℕ) → renamed (u .set) i ≡ true → Origin u ns (helperOf u i)
 
 -- every literal of every clause has a variable with an origin
-abbrev pub Named : ℕ → List ℕ → List Node → List Clause → Type 0
-Named v s ns cs = Every (Every (λ l. Origin v s ns (l .variable))) cs
+abbrev pub Named : Renaming → List Node → List Clause → Type 0
+Named u ns cs = Every (Every (λ l. Origin u ns (l .variable))) cs

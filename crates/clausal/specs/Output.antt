@@ -1,18 +1,18 @@
--- "Clauses of a node": the output, as a list of parts, and whatever is collected of the parts one after the other.
+-- R5: the output, as a list of parts, and whatever is collected of the parts one after the other.
 -- Assumes nothing: these are definitions.
-use mathlib.Core.Bool.{Bool, true, false, cond}
+use mathlib.Core.Bool.{true, false, cond}
 use mathlib.Core.List.{List, [], _∷_, _++_}
 use Prim.Native.Nat.{ℕ, zero, suc, _-_}
 use lib.ListN.{length}
-use Rattle.formula.specs.Marks.{markOf}
-use Rattle.formula.specs.declared.mark.Mark.{Mark}
-use Rattle.formula.specs.declared.node.Node.{Node}
-use Rattle.clausal.specs.Algebra.{Algebra, Row, clauses}
-use Rattle.clausal.specs.Helpers.{renamed, helperOf}
+use Rattle.formula.specs.Marks.{markOf, halvesOf}
+use Rattle.formula.specs.Sets.{renamed}
+use Rattle.clausal.specs.Algebra.{Algebra, clauses}
+use Rattle.clausal.specs.Renamings.{Renaming, helperOf, nameOf}
 use Rattle.clausal.specs.Literals.{Clause}
 use Rattle.clausal.specs.Rows.{rowOf}
+use Rattle.formula.specs.declared.node.Node.{Node}
 
--- the root's clauses, a definition's half from helper to body, and its half back
+-- R5.1, R5.3, R5.4: the root part, the half of a definition from helper to body, and the half back
 pub data Direction : Type 0 where
   root : Direction
   down : Direction
@@ -25,40 +25,33 @@ pub record Part (C : Type 0) : Type 0 where
   pub direction : Direction
   pub content : C
 
--- which halves a renamed node's definition has: a positive node the half down, a negative node the half up
-pub record Halves : Type 0 where
-  pub down : Bool
-  pub up : Bool
-
-abbrev pub halvesOf : Mark → Halves
-halvesOf m = record { down = m .positive; up = m .negative }
-
-module _ {C : Type 0} (A : Algebra C) (v : ℕ) (s : List ℕ) (ns : List Node) where
+module _ {C : Type 0} (A : Algebra C) (u : Renaming) (ns : List Node) where
+  -- R5.1
   abbrev pub rootPart : Part C
-  rootPart = record { origin = length ns - 1; helper = 0; direction = root; content = rowOf A v s ns (length ns - 1) .P }
+  rootPart = record { origin = length ns - 1; helper = 0; direction = root; content = rowOf A (nameOf u) ns (length ns - 1) .P }
 
-  -- "the join of -h with its P"
+  -- R5.3
   abbrev pub downPart : ℕ → Part C
   downPart i = record {
     origin = i;
-    helper = helperOf v s i;
+    helper = helperOf u i;
     direction = down;
-    content = A .join (A .unit false (helperOf v s i)) (rowOf A v s ns i .P);
+    content = A .join (A .unit false (helperOf u i)) (rowOf A (nameOf u) ns i .P);
   }
 
-  -- "the join of its N with h"
+  -- R5.4
   abbrev pub upPart : ℕ → Part C
   upPart i = record {
     origin = i;
-    helper = helperOf v s i;
+    helper = helperOf u i;
     direction = up;
-    content = A .join (rowOf A v s ns i .N) (A .unit true (helperOf v s i));
+    content = A .join (rowOf A (nameOf u) ns i .N) (A .unit true (helperOf u i));
   }
 
-  -- the definition of node i, where it is renamed: "a node with both gives the first, then the second"
+  -- R5.5 to R5.7: the definition of node i, where it is renamed
   abbrev pub definition : ℕ → List (Part C)
   definition i =
-      cond (renamed s i)
+      cond (renamed (u .set) i)
       (cond (halvesOf (markOf ns i) .down) (downPart i ∷ []) [] ++ cond (halvesOf (markOf ns i) .up) (upPart i ∷ []) [])
       []
 
@@ -67,7 +60,7 @@ module _ {C : Type 0} (A : Algebra C) (v : ℕ) (s : List ℕ) (ns : List Node) 
   definitions zero = []
   definitions (suc n) = definitions n ++ definition n
 
-  -- "Output: P(root), then definitions by rising node number"
+  -- R5.1, R5.2
   abbrev pub partsOf : List (Part C)
   partsOf = rootPart ∷ definitions (length ns)
 
@@ -77,9 +70,9 @@ gather A sum [] = sum
 gather A sum (p ∷ ps) = gather A (A .cat sum (p .content)) ps
 
 -- what is collected of the whole output
-abbrev pub wholeOf : {C : Type 0} → Algebra C → ℕ → List ℕ → List Node → C
-wholeOf A v s ns = gather A (A .none) (partsOf A v s ns)
+abbrev pub wholeOf : {C : Type 0} → Algebra C → Renaming → List Node → C
+wholeOf A u ns = gather A (A .none) (partsOf A u ns)
 
--- the clauses of a formula under a set
-abbrev pub outputOf : ℕ → List ℕ → List Node → List Clause
-outputOf v s ns = wholeOf clauses v s ns
+-- the clauses of a formula under a renaming
+abbrev pub outputOf : Renaming → List Node → List Clause
+outputOf u ns = wholeOf clauses u ns

@@ -1,4 +1,4 @@
--- "Clauses of a node": the clauses of the output by their numbers. Each stands in one part, under one number there.
+-- R4.6, R5: the clauses of the output by their numbers. Each stands in one part, under one number there.
 -- Assumes nothing: these are definitions.
 use mathlib.Core.Path.{_≡_}
 use mathlib.Core.Bool.{cond}

@@ -1,19 +1,19 @@
--- "Clauses of a node": the rows of all nodes, from node 0 upward, under a set of renamed nodes.
+-- R4: the rows of all nodes, from node 0 upward. `name` says of each node as which helper it is seen, 0 for none.
 -- Assumes nothing: these are definitions.
 use mathlib.Core.Bool.{cond}
 use mathlib.Core.List.{List}
 use Prim.Native.Nat.{ℕ}
+use lib.Dec.{eqb}
 use lib.ListN.{length, getD}
-use Rattle.laws.specs.Upward.{upTo}
+use Rattle.laws.specs.Lists.{upTo}
 use Rattle.formula.specs.Nodes.{nodeIn}
-use Rattle.formula.specs.declared.node.Node.{Node}
 use Rattle.clausal.specs.Algebra.{Algebra, Row, unitRow, noRow, rowBy}
-use Rattle.clausal.specs.Helpers.{renamed, helperOf}
+use Rattle.formula.specs.declared.node.Node.{Node}
 
-module _ {C : Type 0} (A : Algebra C) (v : ℕ) (s : List ℕ) where
-  -- node i as a child: a renamed node is seen as its helper
+module _ {C : Type 0} (A : Algebra C) (name : ℕ → ℕ) where
+  -- R4.4: node i as a child
   abbrev pub seen : ℕ → Row C → Row C
-  seen i row = cond (renamed s i) (unitRow A (helperOf v s i)) row
+  seen i row = cond (eqb (name i) 0) row (unitRow A (name i))
 
   -- the row of node i, from the rows before it
   abbrev pub rowFrom : List Node → List (Row C) → ℕ → Row C
@@ -25,6 +25,6 @@ module _ {C : Type 0} (A : Algebra C) (v : ℕ) (s : List ℕ) where
   abbrev pub rowsOf : List Node → List (Row C)
   rowsOf ns = upTo (rowFrom ns) (length ns)
 
-  -- P and N of node i itself; of a renamed node too, those of its body
+  -- R4.1: P and N of node i itself; of a renamed node too, those of its body (R5.8)
   abbrev pub rowOf : List Node → ℕ → Row C
   rowOf ns i = getD (rowsOf ns) i (noRow A)

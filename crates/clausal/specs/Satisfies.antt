@@ -2,14 +2,16 @@
 -- Assumes nothing: these are definitions.
 use mathlib.Core.Bool.{Bool, true, false, cond, _&&_, _||_, Bool·beq}
 use mathlib.Core.List.{List, [], _∷_}
-use Prim.Native.Nat.{ℕ, zero, suc}
+use mathlib.Core.Path.{_≡_}
+use Prim.Native.Nat.{ℕ, zero, suc, _<_, _≤_}
 use lib.Dec.{eqb}
 use lib.ListN.{length}
+use Rattle.formula.specs.Sets.{renamed}
 use Rattle.formula.specs.Truths.{truthOf}
-use Rattle.formula.specs.declared.node.Node.{Node}
 use Rattle.clausal.specs.Algebra.{Algebra}
-use Rattle.clausal.specs.Helpers.{renamed, helperOf}
 use Rattle.clausal.specs.Literals.{Literal, Clause}
+use Rattle.clausal.specs.Renamings.{Renaming, helperOf}
+use Rattle.formula.specs.declared.node.Node.{Node}
 
 -- a plain literal is true where its variable is, a negated one where it is not
 abbrev pub literalTrue : (ℕ → Bool) → Literal → Bool
@@ -35,11 +37,16 @@ truths ρ = record {
   join = _||_;
 }
 
--- the row ρ, but that the helper of each renamed node below n takes its node's truth in ρ
-unfoldable pub withHelpers : (ℕ → Bool) → ℕ → List ℕ → List Node → ℕ → ℕ → Bool
-withHelpers ρ v s ns zero x = ρ x
-withHelpers ρ v s ns (suc n) x =
-    cond (renamed s n) (cond (eqb x (helperOf v s n)) (truthOf ρ ns n) (withHelpers ρ v s ns n x)) (withHelpers ρ v s ns n x)
+-- R15.10: the row ρ, but that the helper of each renamed node below n takes its node's truth in ρ
+unfoldable pub withHelpers : (ℕ → Bool) → Renaming → List Node → ℕ → ℕ → Bool
+withHelpers ρ u ns zero x = ρ x
+withHelpers ρ u ns (suc n) x =
+    cond (renamed (u .set) n) (cond (eqb x (helperOf u n)) (truthOf ρ ns n) (withHelpers ρ u ns n x)) (withHelpers ρ u ns n x)
 
-abbrev pub extended : (ℕ → Bool) → ℕ → List ℕ → List Node → ℕ → Bool
-extended ρ v s ns = withHelpers ρ v s ns (length ns)
+abbrev pub extended : (ℕ → Bool) → Renaming → List Node → ℕ → Bool
+extended ρ u ns = withHelpers ρ u ns (length ns)
+
+-- R15.10: τ has the values of ρ on the options 1 to V, and each helper at its node's truth in ρ
+pub record Extends (v : ℕ) (u : Renaming) (ns : List Node) (ρ τ : ℕ → Bool) : Type 0 where
+  pub options : (x : ℕ) → 0 < x → x ≤ v → τ x ≡ ρ x
+  pub helpers : (i : ℕ) → i < length ns → renamed (u .set) i ≡ true → τ (helperOf u i) ≡ truthOf ρ ns i

@@ -1,17 +1,18 @@
--- "Ceilings": true totals of clauses and literals, and the same read at their ceilings.
+-- R7: true totals of clauses and literals, and the same read at their ceilings.
 -- Assumes nothing: these are definitions.
 use mathlib.Core.Bool.{cond}
 use mathlib.Core.List.{List, [], _∷_}
 use Prim.Native.Nat.{ℕ, _+_, _*_}
 use lib.Dec.{ltb}
 use lib.ListN.{length}
-use Rattle.laws.specs.Caps.{cap}
-use Rattle.formula.specs.declared.node.Node.{Node}
+use Rattle.laws.specs.Numbers.{cap}
 use Rattle.clausal.specs.Algebra.{Algebra}
 use Rattle.clausal.specs.Literals.{Clause}
 use Rattle.clausal.specs.Output.{wholeOf}
+use Rattle.clausal.specs.Renamings.{Renaming}
+use Rattle.formula.specs.declared.node.Node.{Node}
 
--- how many clauses, and how many literals in them
+-- R7.1
 pub record Size : Type 0 where
   pub clauses : ℕ
   pub literals : ℕ
@@ -24,7 +25,7 @@ literalsIn (c ∷ cs) = length c + literalsIn cs
 abbrev pub sizeOf : List Clause → Size
 sizeOf cs = record { clauses = length cs; literals = literalsIn cs }
 
--- true totals: in a join each side's literals are repeated for each clause of the other
+-- R7.2: true totals
 abbrev pub sizes : Algebra Size
 sizes = record {
   none = record { clauses = 0; literals = 0 };
@@ -34,14 +35,14 @@ sizes = record {
   join = λ x y. record { clauses = x .clauses * y .clauses; literals = x .literals * y .clauses + x .clauses * y .literals };
 }
 
--- the two ceilings
+-- R7.3, R7.4
 abbrev pub clauseCeiling : ℕ
 clauseCeiling = 65_535
 
 abbrev pub literalCeiling : ℕ
 literalCeiling = 1_000_000
 
--- "A literal total is stated only where its clause total is below 65,535; otherwise it is reported as 1,000,000"
+-- R7.3 to R7.5
 abbrev pub readAt : ℕ → ℕ → Size → Size
 readAt most full x = record {
   clauses = cap most (x .clauses);
@@ -64,9 +65,9 @@ shown x = readAt clauseCeiling literalCeiling x
 abbrev pub capped : Algebra Size
 capped = cappedAt clauseCeiling literalCeiling
 
--- the true totals of the output, and the totals as they are reported
-abbrev pub trueTotals : ℕ → List ℕ → List Node → Size
-trueTotals v s ns = wholeOf sizes v s ns
+-- R7.9: the true totals of the output, and the totals as they are reported
+abbrev pub trueTotals : Renaming → List Node → Size
+trueTotals u ns = wholeOf sizes u ns
 
-abbrev pub totals : ℕ → List ℕ → List Node → Size
-totals v s ns = wholeOf capped v s ns
+abbrev pub totals : Renaming → List Node → Size
+totals u ns = wholeOf capped u ns

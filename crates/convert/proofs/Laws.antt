@@ -1,11 +1,14 @@
 -- Laws of converting, by subject.
-pub mod Accepted
+pub mod Checked
 pub mod Counts
-pub mod Definitions
 pub mod Fitted
 pub mod Found
 pub mod Helpers
 pub mod Leads
+pub mod Loops
+pub mod Output
 pub mod Parts
-pub mod Wrote
-pub mod Waiting
+pub mod Put
+pub mod Walks
+pub mod Writes
+pub mod Written

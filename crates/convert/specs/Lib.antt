@@ -1,7 +1,3 @@
--- What the contracts of converting cite.
-pub mod Helpers
-pub mod Lists
-pub mod Steps
-pub mod Written
-pub mod Parts
+-- What converting answers, and what the inner contracts cite.
 pub mod Converted
+pub mod Inner

@@ -1,100 +1,110 @@
-// Writing the literals of one clause.
+// Writing the literals of one clause: each node through its children, whose numbers are lower.
 ghost use Rattle.formula.specs.Nodes.{nodesOf};
-ghost use Rattle.convert.specs.Steps.{wayClause};
-ghost use Rattle.convert.specs.Written.{Writable, Due, Wrote};
-use crate::step::Step;
-use crate::step::Way;
+ghost use Rattle.clausal.specs.Literals.{literalBytes};
+ghost use Rattle.convert.specs.Inner.Lists.{namesIn, ownList, seenList, shownAll};
+ghost use Rattle.convert.specs.Inner.Written.{Due, Put};
+ghost use lib.ListN.{getD};
+ghost use mathlib.Core.List.{[]};
+use crate::step::Parts;
 use crate::step::lead;
 use answer::put;
+use clausebytes::word::word;
 
-// How many clauses wait in one call.
-const MOST_WAITING: usize = 16;
-
-// Writes the literals of a clause from `at` on, and returns the next place. Of two children's clauses the right one waits
-// until the left one is written. Where no more can wait, the left one is written by a call of its own. The node number
-// falls at each call. `options` and `set` are what the promise speaks of: the code reads the helpers that were made of them.
-pub fn write<'a>(
-    table: &[u8],
-    options: u32,
-    set: &[u8],
-    helpers: &[u32],
-    p_clauses: &'a [u32],
-    p_literals: &'a [u32],
-    n_clauses: &'a [u32],
-    n_literals: &'a [u32],
-    own: bool,
-    way: Way,
-    out: &mut [u8],
+// Writes clause k of the list of a node for a sign, as it is seen as a child, from `at` on: the literal of its helper, or
+// the clause of its own list. Returns the next place.
+fn write(
+    table: &&[u8],
+    clauses: &[[u16; 1024]; 2],
+    literals: &[[u32; 1024]; 2],
+    helpers: &[u32; 1024],
+    out: &mut &mut [u8],
     at: usize,
+    node: usize,
+    sign: bool,
+    k: usize,
 ) -> usize
-    requires { ⌜ Writable (now table) options (now set) (now helpers) (now «p_clauses») (now «p_literals») (now «n_clauses») (now «n_literals») ⌝ }
-    requires { ⌜ Due (now table) options (now set) own way (now out) at ⌝ }
-    ensures { λ r. ⌜ Wrote (wayClause options (now (set .entry)) (nodesOf (now (table .entry))) own way) (now (out .entry)) at r (now (out .exit)) ⌝ }
+    requires { ⌜ Due (now (now table)) (now clauses) (now literals) (now helpers) (seenList (namesIn (now helpers)) (nodesOf (now (now table))) node sign) node k (now (now out)) at ⌝ }
+    ensures { λ r. ⌜ Put (shownAll literalBytes (getD (seenList (namesIn (now (helpers .entry))) (nodesOf (now (now (table .entry)))) node sign) k [])) (now (out .entry)) at r (now (out .exit)) ⌝ }
 {
-    let mut later = [Way {
-        node: 0,
-        sign: false,
-        k: 0,
-    }; 16];
-    let mut waiting = 0;
-    let mut here = way;
-    let mut first = own;
-    let mut next = at;
-    loop {
-        let step = lead(
+    let helper = helpers[node];
+    if helper != 0 {
+        put(out, at, word(sign, helper));
+        return at + 4;
+    }
+    write_own(table, clauses, literals, helpers, out, at, node, sign, k)
+}
+
+// Writes clause k of a node's own list for a sign from `at` on, and returns the next place. The node number falls at each
+// call; quotient and remainder chose among the children's clauses.
+pub fn write_own(
+    table: &&[u8],
+    clauses: &[[u16; 1024]; 2],
+    literals: &[[u32; 1024]; 2],
+    helpers: &[u32; 1024],
+    out: &mut &mut [u8],
+    at: usize,
+    node: usize,
+    sign: bool,
+    k: usize,
+) -> usize
+    requires { ⌜ Due (now (now table)) (now clauses) (now literals) (now helpers) (ownList (namesIn (now helpers)) (nodesOf (now (now table))) node sign) node k (now (now out)) at ⌝ }
+    ensures { λ r. ⌜ Put (shownAll literalBytes (getD (ownList (namesIn (now (helpers .entry))) (nodesOf (now (now (table .entry)))) node sign) k [])) (now (out .entry)) at r (now (out .exit)) ⌝ }
+{
+    let step = lead(table, clauses, literals, helpers, node, sign, k);
+    let parts = step.parts;
+    let l = step.left;
+    let r = step.right;
+    match parts {
+        Parts::Nothing => at,
+        Parts::Literal => {
+            put(out, at, word(sign, step.variable));
+            at + 4
+        }
+        Parts::Left => write(
             table,
+            clauses,
+            literals,
             helpers,
-            p_clauses,
-            p_literals,
-            n_clauses,
-            n_literals,
-            first,
-            here,
-        );
-        first = false;
-        match step {
-            Step::Nothing => {
-                if waiting == 0 {
-                    return next;
-                }
-                waiting -= 1;
-                here = later[waiting];
-            }
-            Step::Literal(word) => {
-                put(out, next, word);
-                next += 4;
-                if waiting == 0 {
-                    return next;
-                }
-                waiting -= 1;
-                here = later[waiting];
-            }
-            Step::One(child) => {
-                here = child;
-            }
-            Step::Two(left, right) => {
-                if waiting < MOST_WAITING {
-                    later[waiting] = right;
-                    waiting += 1;
-                    here = left;
-                } else {
-                    next = write(
-                        table,
-                        options,
-                        set,
-                        helpers,
-                        p_clauses,
-                        p_literals,
-                        n_clauses,
-                        n_literals,
-                        false,
-                        left,
-                        out,
-                        next,
-                    );
-                    here = right;
-                }
-            }
+            out,
+            at,
+            l.node,
+            l.sign,
+            l.k,
+        ),
+        Parts::Right => write(
+            table,
+            clauses,
+            literals,
+            helpers,
+            out,
+            at,
+            r.node,
+            r.sign,
+            r.k,
+        ),
+        Parts::Both => {
+            let next = write(
+                table,
+                clauses,
+                literals,
+                helpers,
+                out,
+                at,
+                l.node,
+                l.sign,
+                l.k,
+            );
+            write(
+                table,
+                clauses,
+                literals,
+                helpers,
+                out,
+                next,
+                r.node,
+                r.sign,
+                r.k,
+            )
         }
     }
 }

@@ -1,16 +1,20 @@
 // Converting a formula under a set to clause bytes.
 ghost use mathlib.Core.Path.{_≡_};
+ghost use lib.ListN.{length};
 ghost use Rattle.formula.specs.Nodes.{nodesOf};
-ghost use Rattle.totals.specs.Sized.{sized};
-ghost use Rattle.convert.specs.Converted.{Right, Measured, fitted, writtenUnder, convertedUnder, converted};
-use crate::helper::helpers;
-use crate::helper::variables;
+ghost use Rattle.laws.specs.Lists.{splice};
+ghost use Rattle.clausal.specs.Renamings.{renaming, variablesOf};
+ghost use Rattle.totals.specs.Inner.Sized.{sized};
+ghost use Rattle.convert.specs.Converted.{takenChecked, convertedUnder, converted, convertedAfter};
+ghost use Rattle.convert.specs.Inner.Fitted.{fitted, writtenUnder, outputBytes, Convertible, Settled, Measured, Fitting};
+use crate::helper::name_all;
 use crate::part::write_all;
 use answer::Answer;
 use answer::is_refusal;
-use formula::mark::marks;
-use formula::node::NODE_BYTES;
-use totals::rows::node_totals;
+use formula::mark::mark_all;
+use formula::node::MOST_NODES;
+use formula::node::MOST_OPTIONS;
+use totals::rows::fill;
 use totals::total::ClauseTotal;
 use totals::total::LiteralTotal;
 use totals::total::Total;
@@ -22,93 +26,113 @@ fn fit(sum: Total, room: usize) -> Answer
 {
     let clauses = sum.clauses;
     let literals = sum.literals;
-    if clauses < ClauseTotal::CEILING {
-        if literals < LiteralTotal::CEILING {
-            if room < 4 * (clauses as usize + literals as usize) {
-                return Answer::Room;
-            }
-            return Answer::Accepted {
-                first: 0,
-                second: 0,
-            };
-        }
+    let bytes = 4 * (clauses.n as usize + literals.n as usize);
+    if clauses.n >= ClauseTotal::CEILING {
+        return Answer::Clauses;
+    }
+    if literals.n >= LiteralTotal::CEILING {
         return Answer::Literals;
     }
-    Answer::Clauses
+    if room < bytes {
+        return Answer::Room;
+    }
+    Answer::Accepted {
+        first: 0,
+        second: 0,
+    }
+}
+
+// Writes the output into a buffer in which it fits, and returns the last variable.
+fn write_output(
+    table: &[u8],
+    taken: u32,
+    marks: &[u8; 1024],
+    set: &[u8],
+    clauses: &[[u16; 1024]; 2],
+    literals: &[[u32; 1024]; 2],
+    out: &mut [u8],
+) -> u32
+    requires { ⌜ Fitting (now table) taken (now marks) (now set) (now clauses) (now literals) (now out) ⌝ }
+    ensures { λ r. ⌜ (r ≡ variablesOf (renaming taken (now (set .entry))) (length (now (set .entry)))) × (now (out .exit) ≡ splice (now (out .entry)) 0 (outputBytes (now (table .entry)) taken (now (set .entry)))) ⌝ }
+{
+    let mut helpers = [0u32; MOST_NODES];
+    let last = name_all(taken, set, &mut helpers);
+    write_all(&table, marks, clauses, literals, &helpers, out);
+    last
 }
 
 // Writes the output, where it fits.
-fn write_under<'a>(
+fn write_under(
     table: &[u8],
-    options: u32,
-    marks: &[u8],
+    taken: u32,
+    marks: &[u8; 1024],
     set: &[u8],
-    p_clauses: &'a [u32],
-    p_literals: &'a [u32],
-    n_clauses: &'a [u32],
-    n_literals: &'a [u32],
+    clauses: &[[u16; 1024]; 2],
+    literals: &[[u32; 1024]; 2],
     sum: Total,
     out: &mut [u8],
 ) -> Answer
-    requires { ⌜ Measured (now table) options (now marks) (now set) (now «p_clauses») (now «p_literals») (now «n_clauses») (now «n_literals») (sized sum) ⌝ }
-    ensures { λ r. ⌜ record { answer = r; output = now (out .exit) } ≡ writtenUnder options (nodesOf (now (table .entry))) (now (set .entry)) (now (out .entry)) ⌝ }
+    requires { ⌜ Measured (now table) taken (now marks) (now set) (now clauses) (now literals) (sized sum) ⌝ }
+    ensures { λ r. ⌜ record { answer = r; output = now (out .exit) } ≡ writtenUnder (renaming taken (now (set .entry))) (nodesOf (now (table .entry))) (now (out .entry)) ⌝ }
 {
     let fits = fit(sum, out.len());
     if is_refusal(fits) {
         return fits;
     }
-    let count = table.len() / NODE_BYTES;
-    let helpers = helpers(options, set, count);
-    write_all(
-        table,
-        options,
-        marks,
-        set,
-        &helpers,
-        p_clauses,
-        p_literals,
-        n_clauses,
-        n_literals,
-        out,
-    );
+    let last = write_output(table, taken, marks, set, clauses, literals, out);
+    let total = sum.clauses;
     Answer::Accepted {
-        first: variables(options, set, count),
-        second: sum.clauses,
+        first: last,
+        second: total.n as u32,
     }
 }
 
-// Checks a set for a table that is right, and converts.
-fn convert_under(table: &[u8], options: u32, set: &[u8], out: &mut [u8]) -> Answer
-    requires { ⌜ Right (now table) options ⌝ }
-    ensures { λ r. ⌜ record { answer = r; output = now (out .exit) } ≡ convertedUnder options (nodesOf (now (table .entry))) (now (set .entry)) (now (out .entry)) ⌝ }
+// Converts a table under a set, both of which are right.
+fn convert_settled(
+    table: &[u8],
+    taken: u32,
+    marks: &[u8; 1024],
+    set: &[u8],
+    out: &mut [u8],
+) -> Answer
+    requires { ⌜ Settled (now table) taken (now marks) (now set) ⌝ }
+    ensures { λ r. ⌜ record { answer = r; output = now (out .exit) } ≡ writtenUnder (renaming taken (now (set .entry))) (nodesOf (now (table .entry))) (now (out .entry)) ⌝ }
 {
-    let marks = marks(table);
+    let mut clauses = [[0u16; MOST_NODES]; 2];
+    let mut literals = [[0u32; MOST_NODES]; 2];
+    fill(table, set, 0, &mut clauses, &mut literals);
+    let sum = whole(table, marks, set, 0, &clauses, &literals);
+    write_under(table, taken, marks, set, &clauses, &literals, sum, out)
+}
+
+// Checks a set for a table that is right, and converts, with helpers after what is taken.
+fn convert_under(table: &[u8], taken: u32, set: &[u8], out: &mut [u8]) -> Answer
+    requires { ⌜ Convertible (now table) taken ⌝ }
+    ensures { λ r. ⌜ record { answer = r; output = now (out .exit) } ≡ convertedUnder (renaming taken (now (set .entry))) (nodesOf (now (table .entry))) (now (out .entry)) ⌝ }
+{
+    let mut marks = [0u8; MOST_NODES];
+    mark_all(table, &mut marks);
     let right = formula::set::check(table, &marks, set);
     if is_refusal(right) {
         return right;
     }
-    let all = node_totals(table, set);
-    let sum = whole(
-        table,
-        &marks,
-        set,
-        &all.p_clauses,
-        &all.p_literals,
-        &all.n_clauses,
-        &all.n_literals,
-    );
-    write_under(
-        table,
-        options,
-        &marks,
-        set,
-        &all.p_clauses,
-        &all.p_literals,
-        &all.n_clauses,
-        &all.n_literals,
-        sum,
-        out,
-    )
+    convert_settled(table, taken, &marks, set, out)
+}
+
+// Whether what is taken has all options, and no more than a project may have.
+fn check_taken(options: u32, taken: u32) -> Answer
+    ensures { λ r. ⌜ r ≡ takenChecked options taken ⌝ }
+{
+    if taken < options {
+        return Answer::Options;
+    }
+    if taken > MOST_OPTIONS {
+        return Answer::Options;
+    }
+    Answer::Accepted {
+        first: 0,
+        second: 0,
+    }
 }
 
 // Checks a table and a set, and writes the clauses of the formula under the set: variables and clauses are reported.
@@ -120,4 +144,19 @@ pub fn convert(table: &[u8], options: u32, set: &[u8], out: &mut [u8]) -> Answer
         return checked;
     }
     convert_under(table, options, set, out)
+}
+
+// The same for a guard that is solved together with others: helpers come after `taken`, the last variable that is used.
+pub fn convert_after(table: &[u8], options: u32, taken: u32, set: &[u8], out: &mut [u8]) -> Answer
+    ensures { λ r. ⌜ record { answer = r; output = now (out .exit) } ≡ convertedAfter (now (table .entry)) options taken (now (set .entry)) (now (out .entry)) ⌝ }
+{
+    let checked = formula::table::check(table, options);
+    if is_refusal(checked) {
+        return checked;
+    }
+    let right = check_taken(options, taken);
+    if is_refusal(right) {
+        return right;
+    }
+    convert_under(table, taken, set, out)
 }

@@ -1,11 +1,10 @@
 // The helpers of renamed nodes.
 ghost use mathlib.Core.Bool.{cond};
 ghost use mathlib.Core.Path.{_≡_};
-ghost use Prim.Native.Nat.{_+_, _≤_};
-ghost use Rattle.formula.specs.Limits.{mostNodes, mostOptions};
-ghost use Rattle.clausal.specs.Helpers.{variablesOf};
-ghost use Rattle.convert.specs.Helpers.{helpersOf};
-use totals::rows::is_renamed;
+ghost use lib.ListN.{length};
+ghost use Rattle.clausal.specs.Renamings.{renaming, variablesOf};
+ghost use Rattle.convert.specs.Inner.Helpers.{helpersOf, Unnamed};
+use formula::set::is_renamed;
 
 // A number where a condition holds, else 0.
 fn where_so(so: bool, number: u32) -> u32
@@ -17,34 +16,17 @@ fn where_so(so: bool, number: u32) -> u32
     0
 }
 
-// The helper of each of `count` nodes, 0 for one that is not renamed.
-pub fn helpers(options: u32, set: &[u8], count: usize) -> [u32; 1024]
-    requires { ⌜ options ≤ mostOptions ⌝ }
-    requires { ⌜ count ≤ mostNodes ⌝ }
-    ensures { λ r. ⌜ r ≡ helpersOf options (now (set .entry)) count ⌝ }
+// Gives each renamed node its helper, from `taken` + 1 on, and returns the last variable.
+pub fn name_all(taken: u32, set: &[u8], helpers: &mut [u32; 1024]) -> u32
+    requires { ⌜ Unnamed taken (now set) (now helpers) ⌝ }
+    ensures { λ r. ⌜ (r ≡ variablesOf (renaming taken (now (set .entry))) (length (now (set .entry)))) × (now (helpers .exit) ≡ helpersOf (renaming taken (now (set .entry))) (length (now (set .entry)))) ⌝ }
 {
-    let mut all = [0u32; 1024];
-    let mut next = options + 1;
+    let mut last = taken;
     let mut i = 0;
-    while i < count {
+    while i < set.len() {
         let renamed = is_renamed(set, i);
-        all[i] = where_so(renamed, next);
-        next += where_so(renamed, 1);
-        i += 1;
-    }
-    all
-}
-
-// The options of a project, and the helpers of `count` nodes.
-pub fn variables(options: u32, set: &[u8], count: usize) -> u32
-    requires { ⌜ options ≤ mostOptions ⌝ }
-    requires { ⌜ count ≤ mostNodes ⌝ }
-    ensures { λ r. ⌜ r ≡ variablesOf options (now (set .entry)) count ⌝ }
-{
-    let mut last = options;
-    let mut i = 0;
-    while i < count {
-        last += where_so(is_renamed(set, i), 1);
+        last += where_so(renamed, 1);
+        helpers[i] = where_so(renamed, last);
         i += 1;
     }
     last

@@ -1,254 +1,184 @@
 // Writing the output, part by part.
-ghost use mathlib.Core.Bool.{true, cond};
 ghost use mathlib.Core.Path.{_≡_};
-ghost use Prim.Native.Nat.{_+_, _≤_};
 ghost use lib.ListN.{length, getD};
+ghost use mathlib.Core.List.{[]};
+ghost use denote.Ref.{at-last};
+ghost use Rattle.laws.specs.Lists.{splice};
 ghost use Rattle.formula.specs.Nodes.{nodesOf};
-ghost use Rattle.clausal.specs.Literals.{clausesBytes};
-ghost use Rattle.clausal.specs.Output.{outputOf};
-ghost use Rattle.convert.specs.Lists.{listOf};
-ghost use Rattle.convert.specs.Parts.{wordBytes, closedBytes, partBytes, listIf, ClauseDue, PartDue, definedBy, DefinitionDue, OutputDue};
-ghost use Rattle.convert.specs.Steps.{wayClause};
-ghost use Rattle.convert.specs.Written.{Writable, Stored};
-use crate::clause::write;
-use crate::step::Way;
-use crate::step::word;
+ghost use Rattle.clausal.specs.Literals.{literalBytes, clauseBytes, clausesBytes};
+ghost use Rattle.convert.specs.Inner.Lists.{namesIn, ownList, shownAll};
+ghost use Rattle.convert.specs.Inner.Parts.{helperLiteral, around, half, definedBy, definedTo, allParts, ClauseDue, PartDue, DefinitionDue, DefinitionsDue, OutputDue};
+ghost use Rattle.convert.specs.Inner.Written.{Fits, Put};
+use crate::clause::write_own;
+use crate::step::own_count;
 use answer::put;
+use clausebytes::word::word;
+use formula::mark::halves_of;
 use formula::mark::read;
 use formula::node::NODE_BYTES;
-use totals::rows::entry;
-use totals::whole::halves_of;
 
-// Writes a word, where there is one, and returns the next place.
-fn put_word(word: u32, out: &mut [u8], at: usize) -> usize
-    requires { ⌜ at + length (wordBytes word) ≤ length (now out) ⌝ }
-    ensures { λ r. ⌜ Stored (wordBytes word) (now (out .entry)) at r (now (out .exit)) ⌝ }
+// Writes the literal of a helper, where it stands here and there is one, and returns the next place.
+fn put_helper(out: &mut &mut [u8], at: usize, here: bool, plain: bool, helper: u32) -> usize
+    requires { ⌜ Fits (shownAll literalBytes (helperLiteral here plain helper)) (now (now out)) at ⌝ }
+    ensures { λ r. ⌜ Put (shownAll literalBytes (helperLiteral here plain helper)) (now (out .entry)) at r (now (out .exit)) ⌝ }
 {
-    if word == 0 {
+    if !here {
         return at;
     }
-    put(out, at, word);
+    if helper == 0 {
+        return at;
+    }
+    put(out, at, word(plain, helper));
     at + 4
 }
 
-// Writes a clause of a node's own list, with a word in front, a word behind and the closing zero.
-fn write_clause<'a>(
-    table: &[u8],
-    options: u32,
-    set: &[u8],
-    helpers: &[u32],
-    p_clauses: &'a [u32],
-    p_literals: &'a [u32],
-    n_clauses: &'a [u32],
-    n_literals: &'a [u32],
-    way: Way,
-    front: u32,
-    behind: u32,
-    out: &mut [u8],
+// Writes clause k of a part, with the literal of the node's helper and the closing zero.
+fn write_clause(
+    table: &&[u8],
+    clauses: &[[u16; 1024]; 2],
+    literals: &[[u32; 1024]; 2],
+    helpers: &[u32; 1024],
+    out: &mut &mut [u8],
     at: usize,
+    node: usize,
+    sign: bool,
+    k: usize,
 ) -> usize
-    requires { ⌜ Writable (now table) options (now set) (now helpers) (now «p_clauses») (now «p_literals») (now «n_clauses») (now «n_literals») ⌝ }
-    requires { ⌜ ClauseDue (now table) options (now set) way front behind (now out) at ⌝ }
-    ensures { λ r. ⌜ Stored (closedBytes front behind (wayClause options (now (set .entry)) (nodesOf (now (table .entry))) true way)) (now (out .entry)) at r (now (out .exit)) ⌝ }
+    requires { ⌜ ClauseDue (now (now table)) (now clauses) (now literals) (now helpers) node sign k (now (now out)) at ⌝ }
+    ensures { λ r. ⌜ Put (clauseBytes (around (namesIn (now (helpers .entry)) node) sign (getD (ownList (namesIn (now (helpers .entry))) (nodesOf (now (now (table .entry)))) node sign) k []))) (now (out .entry)) at r (now (out .exit)) ⌝ }
 {
-    let first = put_word(front, out, at);
-    let second = write(
-        table,
-        options,
-        set,
-        helpers,
-        p_clauses,
-        p_literals,
-        n_clauses,
-        n_literals,
-        true,
-        way,
-        out,
-        first,
-    );
-    let third = put_word(behind, out, second);
+    let helper = helpers[node];
+    let first = put_helper(out, at, sign, false, helper);
+    let second = write_own(table, clauses, literals, helpers, out, first, node, sign, k);
+    let third = put_helper(out, second, !sign, true, helper);
     put(out, third, 0);
     third + 4
 }
 
-// How many clauses a part has: none where the output does not have it.
-fn part_count<'a>(
-    has: bool,
-    p_clauses: &'a [u32],
-    n_clauses: &'a [u32],
-    node: usize,
-    sign: bool,
-) -> u32
-    ensures { λ r. ⌜ r ≡ cond has (cond sign (getD (now («p_clauses» .entry)) node 0) (getD (now («n_clauses» .entry)) node 0)) 0 ⌝ }
-{
-    if has {
-        if sign {
-            return entry(p_clauses, node);
-        }
-        return entry(n_clauses, node);
-    }
-    0
-}
-
-// Writes a part, where the output has it: each clause of a node's own list, with a word in front and a word behind.
-fn write_part<'a>(
-    has: bool,
-    table: &[u8],
-    options: u32,
-    set: &[u8],
-    helpers: &[u32],
-    p_clauses: &'a [u32],
-    p_literals: &'a [u32],
-    n_clauses: &'a [u32],
-    n_literals: &'a [u32],
-    node: usize,
-    sign: bool,
-    front: u32,
-    behind: u32,
-    out: &mut [u8],
+// Writes a part, where the output has it: each clause of a node's own list for a sign.
+fn write_part(
+    table: &&[u8],
+    clauses: &[[u16; 1024]; 2],
+    literals: &[[u32; 1024]; 2],
+    helpers: &[u32; 1024],
+    out: &mut &mut [u8],
     at: usize,
+    has: bool,
+    node: usize,
+    sign: bool,
 ) -> usize
-    requires { ⌜ Writable (now table) options (now set) (now helpers) (now «p_clauses») (now «p_literals») (now «n_clauses») (now «n_literals») ⌝ }
-    requires { ⌜ PartDue (now table) options (now set) has node sign front behind (now out) at ⌝ }
-    ensures { λ r. ⌜ Stored (partBytes front behind (listIf has (listOf options (now (set .entry)) (nodesOf (now (table .entry))) true sign node))) (now (out .entry)) at r (now (out .exit)) ⌝ }
+    requires { ⌜ PartDue (now (now table)) (now clauses) (now literals) (now helpers) has node sign (now (now out)) at ⌝ }
+    ensures { λ r. ⌜ Put (clausesBytes (half (namesIn (now (helpers .entry))) (nodesOf (now (now (table .entry)))) has node sign)) (now (out .entry)) at r (now (out .exit)) ⌝ }
 {
-    let count = part_count(has, p_clauses, n_clauses, node, sign) as usize;
+    if !has {
+        return at;
+    }
+    let count = own_count(clauses, node, sign);
     let mut next = at;
     let mut k = 0;
     while k < count {
-        next = write_clause(
-            table,
-            options,
-            set,
-            helpers,
-            p_clauses,
-            p_literals,
-            n_clauses,
-            n_literals,
-            Way { node, sign, k },
-            front,
-            behind,
-            out,
-            next,
-        );
+        next = write_clause(table, clauses, literals, helpers, out, next, node, sign, k);
         k += 1;
     }
     next
 }
 
 // Writes the definition of a node, where it is renamed: the half down, then the half up.
-fn write_definition<'a>(
-    table: &[u8],
-    options: u32,
-    marks: &[u8],
-    set: &[u8],
-    helpers: &[u32],
-    p_clauses: &'a [u32],
-    p_literals: &'a [u32],
-    n_clauses: &'a [u32],
-    n_literals: &'a [u32],
-    i: usize,
-    out: &mut [u8],
+fn write_definition(
+    table: &&[u8],
+    marks: &[u8; 1024],
+    clauses: &[[u16; 1024]; 2],
+    literals: &[[u32; 1024]; 2],
+    helpers: &[u32; 1024],
+    out: &mut &mut [u8],
     at: usize,
+    node: usize,
 ) -> usize
-    requires { ⌜ Writable (now table) options (now set) (now helpers) (now «p_clauses») (now «p_literals») (now «n_clauses») (now «n_literals») ⌝ }
-    requires { ⌜ DefinitionDue (now table) options (now marks) (now set) i (now out) at ⌝ }
-    ensures { λ r. ⌜ Stored (clausesBytes (definedBy (now (table .entry)) options (now (set .entry)) i)) (now (out .entry)) at r (now (out .exit)) ⌝ }
+    requires { ⌜ DefinitionDue (now (now table)) (now marks) (now clauses) (now literals) (now helpers) node (now (now out)) at ⌝ }
+    ensures { λ r. ⌜ Put (clausesBytes (definedBy (namesIn (now (helpers .entry))) (nodesOf (now (now (table .entry)))) node)) (now (out .entry)) at r (now (out .exit)) ⌝ }
 {
-    let helper = entry(helpers, i);
-    if helper == 0 {
+    if helpers[node] == 0 {
         return at;
     }
-    let halves = halves_of(read(marks, i));
+    let halves = halves_of(read(marks, node));
     let next = write_part(
-        halves.down,
         table,
-        options,
-        set,
+        clauses,
+        literals,
         helpers,
-        p_clauses,
-        p_literals,
-        n_clauses,
-        n_literals,
-        i,
-        true,
-        word(false, helper),
-        0,
         out,
         at,
+        halves.down,
+        node,
+        true,
     );
     write_part(
-        halves.up,
         table,
-        options,
-        set,
+        clauses,
+        literals,
         helpers,
-        p_clauses,
-        p_literals,
-        n_clauses,
-        n_literals,
-        i,
-        false,
-        0,
-        word(true, helper),
         out,
         next,
+        halves.up,
+        node,
+        false,
     )
 }
 
-// Writes the whole output from the buffer's start on, and returns the place behind it.
-pub fn write_all<'a>(
-    table: &[u8],
-    options: u32,
-    marks: &[u8],
-    set: &[u8],
-    helpers: &[u32],
-    p_clauses: &'a [u32],
-    p_literals: &'a [u32],
-    n_clauses: &'a [u32],
-    n_literals: &'a [u32],
-    out: &mut [u8],
+// Writes the definitions by rising node number, and returns the next place.
+fn write_definitions(
+    table: &&[u8],
+    marks: &[u8; 1024],
+    clauses: &[[u16; 1024]; 2],
+    literals: &[[u32; 1024]; 2],
+    helpers: &[u32; 1024],
+    out: &mut &mut [u8],
+    at: usize,
 ) -> usize
-    requires { ⌜ Writable (now table) options (now set) (now helpers) (now «p_clauses») (now «p_literals») (now «n_clauses») (now «n_literals») ⌝ }
-    requires { ⌜ OutputDue (now table) options (now marks) (now set) (now out) ⌝ }
-    ensures { λ r. ⌜ Stored (clausesBytes (outputOf options (now (set .entry)) (nodesOf (now (table .entry))))) (now (out .entry)) 0 r (now (out .exit)) ⌝ }
+    requires { ⌜ DefinitionsDue (now (now table)) (now marks) (now clauses) (now literals) (now helpers) (now (now out)) at ⌝ }
+    ensures { λ r. ⌜ Put (clausesBytes (definedTo (namesIn (now (helpers .entry))) (nodesOf (now (now (table .entry)))) (length (nodesOf (now (now (table .entry))))))) (now (out .entry)) at r (now (out .exit)) ⌝ }
 {
     let count = table.len() / NODE_BYTES;
-    let mut at = 0;
-    at = write_part(
-        true,
-        table,
-        options,
-        set,
-        helpers,
-        p_clauses,
-        p_literals,
-        n_clauses,
-        n_literals,
-        count - 1,
-        true,
-        0,
-        0,
-        out,
-        at,
-    );
+    let mut next = at;
     let mut i = 0;
     while i < count {
-        at = write_definition(
-            table,
-            options,
-            marks,
-            set,
-            helpers,
-            p_clauses,
-            p_literals,
-            n_clauses,
-            n_literals,
-            i,
-            out,
-            at,
-        );
+        next = write_definition(table, marks, clauses, literals, helpers, out, next, i);
         i += 1;
     }
-    at
+    next
+}
+
+// Writes the whole output from the buffer's start on: the root part, then the definitions.
+fn write_parts(
+    table: &&[u8],
+    marks: &[u8; 1024],
+    clauses: &[[u16; 1024]; 2],
+    literals: &[[u32; 1024]; 2],
+    helpers: &[u32; 1024],
+    out: &mut &mut [u8],
+) -> usize
+    requires { ⌜ OutputDue (now (now table)) (now marks) (now clauses) (now literals) (now helpers) (now (now out)) ⌝ }
+    ensures { λ r. ⌜ Put (clausesBytes (allParts (namesIn (now (helpers .entry))) (nodesOf (now (now (table .entry)))))) (now (out .entry)) 0 r (now (out .exit)) ⌝ }
+{
+    let root = table.len() / NODE_BYTES - 1;
+    let next = write_part(table, clauses, literals, helpers, out, 0, true, root, true);
+    write_definitions(table, marks, clauses, literals, helpers, out, next)
+}
+
+// The same for a buffer that is lent, which is given back.
+pub fn write_all<'a>(
+    table: &&[u8],
+    marks: &[u8; 1024],
+    clauses: &[[u16; 1024]; 2],
+    literals: &[[u32; 1024]; 2],
+    helpers: &[u32; 1024],
+    out: &'a mut [u8],
+) -> &'a mut [u8]
+    requires { ⌜ OutputDue (now (now table)) (now marks) (now clauses) (now literals) (now helpers) (now out) ⌝ }
+    ensures { λ r. ⌜ r ≡ at-last (out .entry) (splice (now (out .entry)) 0 (clausesBytes (allParts (namesIn (now (helpers .entry))) (nodesOf (now (now (table .entry))))))) ⌝ }
+{
+    let mut buffer = out;
+    write_parts(table, marks, clauses, literals, helpers, &mut buffer);
+    let written = buffer;
+    written
 }

@@ -1,304 +1,295 @@
 // How clause k of a node is found through its children.
-ghost use mathlib.Core.Bool.{cond};
 ghost use mathlib.Core.Path.{_≡_};
-ghost use Prim.Native.Nat.{_*_, _<_};
+ghost use Prim.Native.Nat.{_<_};
 ghost use Rattle.formula.specs.Limits.{mostNodes};
 ghost use Rattle.formula.specs.Nodes.{nodeAt};
-ghost use Rattle.convert.specs.Steps.{SymbolRight, wordOf, countIn, catStep, joinStep, joinsStep, pairStep, kindStep, leadStep};
+ghost use Rattle.convert.specs.Inner.Lists.{signed, pairIn};
+ghost use Rattle.convert.specs.Inner.Steps.{none, literalOf, leftOf, rightOf, bothOf, countIn, catStep, joinStep, joinsStep, stepBy, leadStep, Walkable, Leadable};
 use formula::node::Kind;
 use formula::node::Node;
 use formula::node::node_at;
-use totals::rows::Row;
-use totals::rows::entry;
-use totals::rows::row_at;
 
-// The list of a node for a sign, as it is seen as a child.
-pub struct Side {
-    pub node: usize,
-    pub sign: bool,
-}
-
-// Clause k of such a list.
+// Clause k of the list of a node for a sign, as it is seen as a child.
 pub struct Way {
     pub node: usize,
     pub sign: bool,
     pub k: usize,
 }
 
-// What a clause is made of.
-pub enum Step {
-    // No literal.
+// What the literals of a clause are made of.
+pub enum Parts {
+    // There is none.
     Nothing,
-    // One literal.
-    Literal(u32),
-    // A child's clause.
-    One(Way),
-    // A clause of each of two children, one behind the other.
-    Two(Way, Way),
+    // The literal of a variable.
+    Literal,
+    // A clause of the left child.
+    Left,
+    // A clause of the right child.
+    Right,
+    // A clause of the left child, then a clause of the right child.
+    Both,
 }
 
-// A literal as a 32-bit two's complement number.
-pub fn word(plain: bool, variable: u32) -> u32
-    requires { ⌜ 0 < variable ⌝ }
-    ensures { λ r. ⌜ r ≡ wordOf plain variable ⌝ }
+// One step of the writer: what its clause is made of, and with what.
+pub struct Step {
+    pub parts: Parts,
+    pub variable: u32,
+    pub left: Way,
+    pub right: Way,
+}
+
+// No literal.
+fn nothing() -> Step
+    ensures { λ r. ⌜ r ≡ none ⌝ }
 {
-    if plain {
-        return variable;
+    let way = Way {
+        node: 0,
+        sign: false,
+        k: 0,
+    };
+    Step {
+        parts: Parts::Nothing,
+        variable: 0,
+        left: way,
+        right: way,
     }
-    4_294_967_295 - (variable - 1)
 }
 
-// How many clauses a child's list has.
-fn count<'a>(helpers: &[u32], p_clauses: &'a [u32], n_clauses: &'a [u32], side: Side) -> u32
-    ensures { λ r. ⌜ r ≡ countIn (now (helpers .entry)) (now («p_clauses» .entry)) (now («n_clauses» .entry)) side ⌝ }
+// The literal of a variable.
+fn literal(variable: u32) -> Step
+    ensures { λ r. ⌜ r ≡ literalOf variable ⌝ }
 {
-    let node = side.node;
-    if entry(helpers, node) != 0 {
+    let way = Way {
+        node: 0,
+        sign: false,
+        k: 0,
+    };
+    Step {
+        parts: Parts::Literal,
+        variable,
+        left: way,
+        right: way,
+    }
+}
+
+// A clause of the left child.
+fn left(way: Way) -> Step
+    ensures { λ r. ⌜ r ≡ leftOf way ⌝ }
+{
+    Step {
+        parts: Parts::Left,
+        variable: 0,
+        left: way,
+        right: way,
+    }
+}
+
+// A clause of the right child.
+fn right(way: Way) -> Step
+    ensures { λ r. ⌜ r ≡ rightOf way ⌝ }
+{
+    Step {
+        parts: Parts::Right,
+        variable: 0,
+        left: way,
+        right: way,
+    }
+}
+
+// A clause of each child, the left one first.
+fn both(left: Way, right: Way) -> Step
+    ensures { λ r. ⌜ r ≡ bothOf left right ⌝ }
+{
+    Step {
+        parts: Parts::Both,
+        variable: 0,
+        left,
+        right,
+    }
+}
+
+// A clause total as a number of clauses.
+fn wide(total: u16) -> usize
+    ensures { λ r. ⌜ (r ≡ total) × (r < 65_536) ⌝ }
+{
+    total as usize
+}
+
+// How many clauses the list of a node has for a sign.
+pub fn own_count(clauses: &[[u16; 1024]; 2], node: usize, sign: bool) -> usize
+    requires { ⌜ node < mostNodes ⌝ }
+    ensures { λ r. ⌜ (r ≡ signed sign (pairIn (now (clauses .entry)) node)) × (r < 65_536) ⌝ }
+{
+    if sign {
+        return wide(clauses[0][node]);
+    }
+    wide(clauses[1][node])
+}
+
+// How many literals the list of a node has for a sign.
+fn own_literals(literals: &[[u32; 1024]; 2], node: usize, sign: bool) -> u32
+    requires { ⌜ node < mostNodes ⌝ }
+    ensures { λ r. ⌜ r ≡ signed sign (pairIn (now (literals .entry)) node) ⌝ }
+{
+    if sign {
+        return literals[0][node];
+    }
+    literals[1][node]
+}
+
+// How many clauses a child's list has: one where the child is seen as its helper.
+fn count(clauses: &[[u16; 1024]; 2], helpers: &[u32; 1024], node: usize, sign: bool) -> usize
+    requires { ⌜ node < mostNodes ⌝ }
+    ensures { λ r. ⌜ (r ≡ countIn (now (clauses .entry)) (now (helpers .entry)) node sign) × (r < 65_536) ⌝ }
+{
+    if helpers[node] != 0 {
         return 1;
     }
-    if side.sign {
-        return entry(p_clauses, node);
-    }
-    entry(n_clauses, node)
+    own_count(clauses, node, sign)
 }
 
 // A clause of one list followed by another: by subtraction.
-fn in_cat<'a>(
-    helpers: &[u32],
-    p_clauses: &'a [u32],
-    n_clauses: &'a [u32],
-    x: Side,
-    y: Side,
+fn in_cat(
+    clauses: &[[u16; 1024]; 2],
+    helpers: &[u32; 1024],
+    a: usize,
+    x: bool,
+    b: usize,
+    y: bool,
     k: usize,
 ) -> Step
-    ensures { λ r. ⌜ r ≡ catStep (countIn (now (helpers .entry)) (now («p_clauses» .entry)) (now («n_clauses» .entry)) x) x y k ⌝ }
+    requires { ⌜ a < mostNodes ⌝ }
+    ensures { λ r. ⌜ r ≡ catStep (now (clauses .entry)) (now (helpers .entry)) a x b y k ⌝ }
 {
-    let first = count(helpers, p_clauses, n_clauses, x) as usize;
+    let first = count(clauses, helpers, a, x);
     if k < first {
-        return Step::One(Way {
-            node: x.node,
-            sign: x.sign,
+        return left(Way {
+            node: a,
+            sign: x,
             k,
         });
     }
-    Step::One(Way {
-        node: y.node,
-        sign: y.sign,
+    right(Way {
+        node: b,
+        sign: y,
         k: k - first,
     })
 }
 
 // A clause of the join of two lists: by quotient and remainder.
-fn in_join<'a>(
-    helpers: &[u32],
-    p_clauses: &'a [u32],
-    n_clauses: &'a [u32],
-    x: Side,
-    y: Side,
+fn in_join(
+    clauses: &[[u16; 1024]; 2],
+    helpers: &[u32; 1024],
+    a: usize,
+    x: bool,
+    b: usize,
+    y: bool,
     k: usize,
 ) -> Step
-    ensures { λ r. ⌜ r ≡ joinStep (countIn (now (helpers .entry)) (now («p_clauses» .entry)) (now («n_clauses» .entry)) y) x y k ⌝ }
+    requires { ⌜ b < mostNodes ⌝ }
+    ensures { λ r. ⌜ r ≡ joinStep (now (clauses .entry)) (now (helpers .entry)) a x b y k ⌝ }
 {
-    let each = count(helpers, p_clauses, n_clauses, y) as usize;
+    let each = count(clauses, helpers, b, y);
     if each == 0 {
-        return Step::Nothing;
+        return nothing();
     }
-    Step::Two(
-        Way {
-            node: x.node,
-            sign: x.sign,
-            k: k / each,
-        },
-        Way {
-            node: y.node,
-            sign: y.sign,
-            k: k % each,
-        },
-    )
+    let l = Way {
+        node: a,
+        sign: x,
+        k: k / each,
+    };
+    let r = Way {
+        node: b,
+        sign: y,
+        k: k % each,
+    };
+    both(l, r)
 }
 
-// The whole product of two numbers.
-fn product(a: u32, b: u32) -> usize
-    ensures { λ r. ⌜ r ≡ a * b ⌝ }
-{
-    a as usize * b as usize
-}
-
-// A clause of two joins, one behind the other.
-fn in_joins<'a>(
-    helpers: &[u32],
-    p_clauses: &'a [u32],
-    n_clauses: &'a [u32],
-    x: Side,
-    y: Side,
-    z: Side,
-    w: Side,
+// A clause of an equivalence: of the first join, or of the second.
+fn in_joins(
+    clauses: &[[u16; 1024]; 2],
+    helpers: &[u32; 1024],
+    a: usize,
+    b: usize,
+    sign: bool,
     k: usize,
 ) -> Step
-    ensures { λ r. ⌜ r ≡ joinsStep (now (helpers .entry)) (now («p_clauses» .entry)) (now («n_clauses» .entry)) x y z w k ⌝ }
+    requires { ⌜ a < mostNodes ⌝ }
+    requires { ⌜ b < mostNodes ⌝ }
+    ensures { λ r. ⌜ r ≡ joinsStep (now (clauses .entry)) (now (helpers .entry)) a b sign k ⌝ }
 {
-    let first = product(
-        count(helpers, p_clauses, n_clauses, x),
-        count(helpers, p_clauses, n_clauses, y),
-    );
+    let first = count(clauses, helpers, a, false) * count(clauses, helpers, b, sign);
     if k < first {
-        return in_join(helpers, p_clauses, n_clauses, x, y, k);
+        return in_join(clauses, helpers, a, false, b, sign, k);
     }
-    in_join(helpers, p_clauses, n_clauses, z, w, k - first)
+    if sign {
+        return in_join(clauses, helpers, b, false, a, true, k - first);
+    }
+    in_join(clauses, helpers, a, true, b, true, k - first)
 }
 
-// A clause of two lists, one followed by the other or joined.
-fn in_pair<'a>(
-    follow: bool,
-    helpers: &[u32],
-    p_clauses: &'a [u32],
-    n_clauses: &'a [u32],
-    x: Side,
-    y: Side,
-    k: usize,
-) -> Step
-    ensures { λ r. ⌜ r ≡ pairStep follow (now (helpers .entry)) (now («p_clauses» .entry)) (now («n_clauses» .entry)) x y k ⌝ }
-{
-    if follow {
-        return in_cat(helpers, p_clauses, n_clauses, x, y, k);
-    }
-    in_join(helpers, p_clauses, n_clauses, x, y, k)
-}
-
-// One number or another.
-fn pick(so: bool, x: usize, y: usize) -> usize
-    ensures { λ r. ⌜ r ≡ cond so x y ⌝ }
-{
-    if so {
-        return x;
-    }
-    y
-}
-
-// Clause k of a node's own list for a sign, by the node's kind.
-fn by_kind<'a>(
-    helpers: &[u32],
-    p_clauses: &'a [u32],
-    n_clauses: &'a [u32],
+// A clause of a node's own list for a sign, by its kind.
+fn by_kind(
+    clauses: &[[u16; 1024]; 2],
+    helpers: &[u32; 1024],
     node: Node,
     sign: bool,
     k: usize,
 ) -> Step
-    requires { ⌜ SymbolRight node ⌝ }
-    ensures { λ r. ⌜ r ≡ kindStep (now (helpers .entry)) (now («p_clauses» .entry)) (now («n_clauses» .entry)) node sign k ⌝ }
+    requires { ⌜ Walkable node ⌝ }
+    ensures { λ r. ⌜ r ≡ stepBy (node .kind) (now (clauses .entry)) (now (helpers .entry)) (node .a) (node .b) sign k ⌝ }
 {
     let kind = node.kind;
     let a = node.a;
     let b = node.b;
     match kind {
-        Kind::False => Step::Nothing,
-        Kind::True => Step::Nothing,
-        Kind::Symbol => Step::Literal(word(sign, a as u32)),
-        Kind::Not => Step::One(Way {
+        Kind::False => nothing(),
+        Kind::True => nothing(),
+        Kind::Symbol => literal(a as u32),
+        Kind::Not => left(Way {
             node: a,
             sign: !sign,
             k,
         }),
-        Kind::And => in_pair(
-            sign,
-            helpers,
-            p_clauses,
-            n_clauses,
-            Side { node: a, sign },
-            Side { node: b, sign },
-            k,
-        ),
-        Kind::Or => in_pair(
-            !sign,
-            helpers,
-            p_clauses,
-            n_clauses,
-            Side { node: a, sign },
-            Side { node: b, sign },
-            k,
-        ),
-        Kind::Implies => in_pair(
-            !sign,
-            helpers,
-            p_clauses,
-            n_clauses,
-            Side {
-                node: a,
-                sign: !sign,
-            },
-            Side { node: b, sign },
-            k,
-        ),
-        Kind::Equivalent => in_joins(
-            helpers,
-            p_clauses,
-            n_clauses,
-            Side {
-                node: a,
-                sign: false,
-            },
-            Side { node: b, sign },
-            Side {
-                node: pick(sign, b, a),
-                sign: !sign,
-            },
-            Side {
-                node: pick(sign, a, b),
-                sign: true,
-            },
-            k,
-        ),
-        Kind::Unknown => Step::Nothing,
+        Kind::And => {
+            if sign {
+                return in_cat(clauses, helpers, a, true, b, true, k);
+            }
+            in_join(clauses, helpers, a, false, b, false, k)
+        }
+        Kind::Or => {
+            if sign {
+                return in_join(clauses, helpers, a, true, b, true, k);
+            }
+            in_cat(clauses, helpers, a, false, b, false, k)
+        }
+        Kind::Implies => {
+            if sign {
+                return in_join(clauses, helpers, a, false, b, true, k);
+            }
+            in_cat(clauses, helpers, a, true, b, false, k)
+        }
+        Kind::Equivalent => in_joins(clauses, helpers, a, b, sign, k),
+        Kind::Unknown => nothing(),
     }
 }
 
-// How clause k of a node's list for a sign is found: of its own list, or of the list as it is seen as a child.
-pub fn lead<'a>(
-    table: &[u8],
-    helpers: &[u32],
-    p_clauses: &'a [u32],
-    p_literals: &'a [u32],
-    n_clauses: &'a [u32],
-    n_literals: &'a [u32],
-    own: bool,
-    way: Way,
+// The step to clause k of a node's own list for a sign: nothing where the list has no literal, else by the node's kind.
+pub fn lead(
+    table: &&[u8],
+    clauses: &[[u16; 1024]; 2],
+    literals: &[[u32; 1024]; 2],
+    helpers: &[u32; 1024],
+    node: usize,
+    sign: bool,
+    k: usize,
 ) -> Step
-    requires { ⌜ way .node < mostNodes ⌝ }
-    requires { ⌜ SymbolRight (nodeAt (now table) (way .node)) ⌝ }
-    ensures { λ r. ⌜ r ≡ leadStep (nodeAt (now (table .entry)) (way .node)) (now (helpers .entry)) (now («p_clauses» .entry)) (now («p_literals» .entry)) (now («n_clauses» .entry)) (now («n_literals» .entry)) own way ⌝ }
+    requires { ⌜ Leadable (now (now table)) node ⌝ }
+    ensures { λ r. ⌜ r ≡ leadStep (nodeAt (now (now (table .entry))) node) (now (clauses .entry)) (now (literals .entry)) (now (helpers .entry)) node sign k ⌝ }
 {
-    let n = way.node;
-    let sign = way.sign;
-    let k = way.k;
-    let helper = pick_helper(own, entry(helpers, n));
-    if helper != 0 {
-        return Step::Literal(word(sign, helper));
+    if own_literals(literals, node, sign) == 0 {
+        return nothing();
     }
-    let row = row_at(p_clauses, p_literals, n_clauses, n_literals, n);
-    if literals(sign, row) == 0 {
-        return Step::Nothing;
-    }
-    by_kind(helpers, p_clauses, n_clauses, node_at(table, n), sign, k)
-}
-
-// The helper under which a node is seen, 0 for its own list.
-fn pick_helper(own: bool, helper: u32) -> u32
-    ensures { λ r. ⌜ r ≡ cond own 0 helper ⌝ }
-{
-    if own {
-        return 0;
-    }
-    helper
-}
-
-// The literal total of a row for a sign.
-fn literals(sign: bool, row: Row) -> u32
-    ensures { λ r. ⌜ r ≡ cond sign (row .p .literals) (row .n .literals) ⌝ }
-{
-    let p = row.p;
-    let n = row.n;
-    if sign {
-        return p.literals;
-    }
-    n.literals
+    by_kind(clauses, helpers, node_at(*table, node), sign, k)
 }

@@ -1,21 +1,8 @@
 -- Laws of DIMACS text, by subject.
-pub mod Checking
-pub mod Classed
-pub mod Encoded
-pub mod Ends
-pub mod Finish
-pub mod Headed
-pub mod Kept
-pub mod Leading
-pub mod Moves
-pub mod Numbers
+pub mod Live
+pub mod Bodies
+pub mod Steps
+pub mod Texts
 pub mod ReadCall
-pub mod Sizes
-pub mod SoundBody
-pub mod SoundText
-pub mod Stand
-pub mod WholeBody
-pub mod WholeText
-pub mod Words
+pub mod Written
 pub mod WriteCall
-pub mod Writing

@@ -1,7 +1,6 @@
 -- Laws and theorems of DIMACS text.
 pub mod Laws
-pub mod Cases
-pub mod NoChoice
-pub mod Place
 pub mod Reading
 pub mod RoundTrip
+pub mod Cases
+pub mod NoChoice

@@ -1,19 +1,21 @@
 -- What is written is accepted and read again as the same clauses: same bytes, same variables, same number of clauses.
 -- Assumes nothing.
-use mathlib.Core.Path.{_≡_, sym, ap, _∙_, subst⁻¹}
+use mathlib.Core.Path.{_≡_, refl, ap, _∙_, subst⁻¹}
 use mathlib.Core.Bool.{true, false}
 use mathlib.Core.List.{List, [], _∷_, _++_, append-assoc}
-use mathlib.Core.Logic.{_↔_}
 use Prim.Native.Nat.{ℕ}
 use lib.ListN.{length}
-use Rattle.laws.specs.Decimals.{decimal}
+use Rattle.text.specs.Decimals.{decimal}
+use Rattle.text.specs.Heads.{Blanks, Numbers, space, none, blanks, just, number, header}
+use Rattle.answer.specs.Part.{stored}
+use Rattle.answer.specs.declared.Answer.the-variants as answer
 use Rattle.clausal.specs.Literals.{Clause, clausesBytes}
-use Rattle.dimacs.specs.Clauses.{Right}
-use Rattle.dimacs.specs.Words.{wrongBytes, clausesOf}
+use Rattle.clausebytes.specs.Words.{clausesOf}
+use Rattle.clausebytes.specs.Right.{Right, wrongBytes}
+use Rattle.clausebytes.proofs.Encoded.{Bytes, not-wrong-of-right, clauses-of-bytes, right-of-bytes, bytes-back}
 use Rattle.dimacs.specs.Written.{literalText, clauseLine, linesOf, writtenText}
-use Rattle.dimacs.specs.Grammar.{Body, Header, Text, space, blank, newline, last, cnf, number, ended, end, white, zero, literal, header}
-use Rattle.dimacs.specs.Calls.{accepted, writeCall, readCall}
-use Rattle.dimacs.proofs.Laws.Encoded.{Bytes, not-wrong-of-right, clauses-of-bytes, right-of-bytes, bytes-back}
+use Rattle.dimacs.specs.Grammar.{cnf, Body, blank, newline, end, white, zero, literal, Follows, Text}
+use Rattle.dimacs.specs.Calls.{writeCall, readCall}
 use Rattle.dimacs.proofs.Reading.{reads, right-text}
 
 -- the lines of clauses stand for them
@@ -28,43 +30,38 @@ lines-body [] = end
 lines-body (c ∷ cs) = clause-body c cs (lines-body cs)
 
 -- the header line, part by part
-parts : (v k : ℕ) (r : List ℕ) → (decimal v ++ (32 ∷ [])) ++ ((decimal k ++ (10 ∷ [])) ++ r) ≡ decimal v ++ (32 ∷ (decimal k ++ (10 ∷ r)))
+parts : (v k : ℕ) (r : List ℕ) → ((decimal v ++ (32 ∷ [])) ++ (decimal k ++ (10 ∷ []))) ++ r ≡ decimal v ++ (32 ∷ (decimal k ++ (10 ∷ r)))
 parts v k r =
-    append-assoc (decimal v) (32 ∷ []) ((decimal k ++ (10 ∷ [])) ++ r)
+    append-assoc (decimal v ++ (32 ∷ [])) (decimal k ++ (10 ∷ [])) r
+    ∙ append-assoc (decimal v) (32 ∷ []) ((decimal k ++ (10 ∷ [])) ++ r)
     ∙ ap (λ (l : List ℕ). decimal v ++ (32 ∷ l)) (append-assoc (decimal k) (10 ∷ []) r)
 
 -- the written text is accepted, and stands for the clauses
 pub written-accepted : (v : ℕ) (cs : List Clause) → Right v cs → Text v cs (writtenText v cs)
 written-accepted v cs r =
-    let k = length cs in
-    let e = append-assoc (decimal v ++ (32 ∷ [])) (decimal k ++ (10 ∷ [])) (linesOf cs) ∙ parts v k (linesOf cs) in
-    header r
-    (subst⁻¹ (λ (l : List ℕ). Header v cs (32 ∷ 99 ∷ 110 ∷ 102 ∷ 32 ∷ l)) e
-    (last space (cnf (last space (number (last space (number (ended (lines-body cs)))))))))
+    let f : Follows v cs v (length cs) (linesOf cs) = record { variables = refl; count = refl; right = r; body = lines-body cs } in
+    header (blanks space (none (just (just (just
+    (subst⁻¹ (λ (l : List ℕ). Blanks (Numbers cnf (Follows v cs) false 0) (32 ∷ l)) (parts v (length cs) (linesOf cs))
+    (blanks space (none (number (r .variables) (blanks space (none (number (r .clauses) (none (just f))))))))))))))
 
 -- right clauses are written ..
-pub writes : (v : ℕ) (cs : List Clause) (buffer : List ℕ) → Right v cs → writeCall (clausesBytes cs) v buffer ≡ accepted v (length cs) (writtenText v cs) buffer
+pub writes : (v : ℕ) (cs : List Clause) (buffer : List ℕ) → Right v cs
+    → writeCall (clausesBytes cs) v buffer ≡ stored (answer.Accepted v (length cs)) (writtenText v cs) buffer
 writes v cs buffer r =
-    rw (not-wrong-of-right v cs r) (ap (λ (ds : List Clause). accepted v (length ds) (writtenText v ds) buffer) (clauses-of-bytes v cs r))
+    rw (not-wrong-of-right v cs r)
+    (ap (λ (ds : List Clause). stored (answer.Accepted v (length ds)) (writtenText v ds) buffer) (clauses-of-bytes v cs r))
 
 -- .. and read again
 pub reads-written : (v : ℕ) (cs : List Clause) (buffer : List ℕ) → Right v cs
-    → readCall (writtenText v cs) buffer ≡ accepted v (length cs) (clausesBytes cs) buffer
+    → readCall (writtenText v cs) buffer ≡ stored (answer.Accepted v (length cs)) (clausesBytes cs) buffer
 reads-written v cs buffer r = reads v cs (writtenText v cs) buffer (written-accepted v cs r)
 
 -- the same from bytes that are not refused: what the call writes is read as those bytes
 pub reads-what-writes : (bytes buffer : List ℕ) (v : ℕ) → Bytes bytes → wrongBytes bytes v ≡ false
-    → readCall (writtenText v (clausesOf bytes)) buffer ≡ accepted v (length (clausesOf bytes)) bytes buffer
+    → readCall (writtenText v (clausesOf bytes)) buffer ≡ stored (answer.Accepted v (length (clausesOf bytes))) bytes buffer
 reads-what-writes bytes buffer v b e =
     reads-written v (clausesOf bytes) buffer (right-of-bytes bytes v b e)
-    ∙ ap (λ (l : List ℕ). accepted v (length (clausesOf bytes)) l buffer) (bytes-back bytes v b e)
-
--- bytes are right exactly if they are those of right clauses
-pub right-exactly : (bytes : List ℕ) (v : ℕ) → Bytes bytes → wrongBytes bytes v ≡ false ↔ ((cs : List Clause) × Right v cs × (bytes ≡ clausesBytes cs))
-right-exactly bytes v b = (
-  λ e. (clausesOf bytes, right-of-bytes bytes v b e, sym (bytes-back bytes v b e)),
-  λ r. ap (λ (l : List ℕ). wrongBytes l v) (r .2) ∙ not-wrong-of-right v (r .0) (r .1),
-)
+    ∙ ap (λ (l : List ℕ). stored (answer.Accepted v (length (clausesOf bytes))) l buffer) (bytes-back bytes v b e)
 
 -- an accepted text and the same clauses written anew stand for the same clauses
 pub rewritten : (v : ℕ) (cs : List Clause) (t : List ℕ) → Text v cs t → Text v cs (writtenText v cs)

@@ -1,37 +1,42 @@
--- What the two calls give: the answer, and the lent buffer afterwards. Refusals in their order: of writing 9, then 7; of reading 8, then 7.
+-- R10.17 to R10.19 and R11.13, R11.14: what the two calls give.
 -- Assumes nothing: these are definitions.
 use mathlib.Core.Bool.{cond}
-use mathlib.Core.List.{List, _++_}
+use mathlib.Core.List.{List}
 use Prim.Native.Nat.{ℕ}
-use lib.Dec.{leb}
-use lib.ListN.{length, drop}
-use Rattle.answer.specs.Part.{Wrote}
-use Rattle.answer.specs.declared.Answer.the-variants.{Accepted, Room, Text, ClauseBytes}
-use Rattle.dimacs.specs.Words.{wrongBytes, clausesOf}
+use lib.ListN.{length}
+use Rattle.text.specs.Inner.Heads.{isDone, headOf}
+use Rattle.answer.specs.Part.{Wrote, stored}
+use Rattle.answer.specs.declared.Answer.the-variants.{Accepted, Text, ClauseBytes}
+use Rattle.clausebytes.specs.Words.{clausesOf}
+use Rattle.clausebytes.specs.Right.{wrongBytes}
 use Rattle.dimacs.specs.Written.{writtenText}
-use Rattle.dimacs.specs.Reader.{readState, accepts, readBytes}
+use Rattle.dimacs.specs.Grammar.{cnf}
+use Rattle.dimacs.specs.Inner.States.{startOf, accepts, stateFrom, bytesFrom}
+use Rattle.dimacs.specs.declared.state.State.{State}
 
--- "the output needs more bytes than the lent buffer has"; "On acceptance only the output's own leading bytes change"
-abbrev pub accepted : ℕ → ℕ → List ℕ → List ℕ → Wrote
-accepted variables clauses output buffer =
-    cond (leb (length output) (length buffer))
-    (record { answer = Accepted variables clauses; output = output ++ drop (length output) buffer })
-    (record { answer = Room; output = buffer })
+-- R10.17, R10.19 and R11.14: a text and the buffer for its clause bytes: refusal 8, then 7. By `proofs/Reading` the text is accepted
+-- exactly if the grammar has it, the bytes are those of its clauses, and the place is R9.21's
+abbrev pub readBody : State → List ℕ → ℕ → List ℕ → Wrote (List ℕ)
+readBody start text from buffer =
+    let end = stateFrom start text from in
+    cond (accepts end)
+    (stored (Accepted (start .variables) (start .declared)) (bytesFrom start text from) buffer)
+    (record { answer = Text (end .place); output = buffer })
 
--- clause bytes, declared variables, and the buffer for the text
-abbrev pub writeCall : List ℕ → ℕ → List ℕ → Wrote
+abbrev pub readCall : List ℕ → List ℕ → Wrote (List ℕ)
+readCall text buffer =
+    let head = headOf cnf text in
+    cond (isDone (head .phase))
+    (readBody (startOf (head .place) (head .before) (head .value)) text (head .place) buffer)
+    (record { answer = Text (head .place); output = buffer })
+
+-- R10.18, R10.19 and R11.13: clause bytes, declared variables, and the buffer for the text: refusal 9, then 7
+abbrev pub writeCall : List ℕ → ℕ → List ℕ → Wrote (List ℕ)
 writeCall bytes v buffer =
     cond (wrongBytes bytes v)
     (record { answer = ClauseBytes; output = buffer })
-    (accepted v (length (clausesOf bytes)) (writtenText v (clausesOf bytes)) buffer)
+    (stored (Accepted v (length (clausesOf bytes))) (writtenText v (clausesOf bytes)) buffer)
 
--- the length of a written text
+-- R9.3: the length of a written text; 0 where the clause bytes are wrong
 abbrev pub textLength : List ℕ → ℕ → ℕ
 textLength bytes v = cond (wrongBytes bytes v) 0 (length (writtenText v (clausesOf bytes)))
-
--- a text, and the buffer for its clause bytes
-abbrev pub readCall : List ℕ → List ℕ → Wrote
-readCall text buffer =
-    cond (accepts (readState text))
-    (accepted (readState text .variables) (readState text .declared) (readBytes text) buffer)
-    (record { answer = Text (readState text .place); output = buffer })

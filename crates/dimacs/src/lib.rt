@@ -1,43 +1,45 @@
 // DIMACS CNF: writing clause bytes as text, and reading text as clause bytes.
-mod body;
-mod check;
 mod class;
-mod header;
-mod limits;
 mod phase;
 mod reader;
 mod state;
-mod table;
-mod token;
-mod word;
 mod writer;
 
-pub use writer::put_field;
 ghost use mathlib.Core.Path.{_≡_};
 ghost use Prim.Native.Nat.{_+_, _<_, _^_};
 ghost use lib.ListN.{length};
-ghost use Rattle.laws.specs.Decimals.{decimal};
+ghost use Rattle.dimacs.specs.Written.{headerLine};
+ghost use Rattle.dimacs.specs.Grammar.{cnf};
 ghost use Rattle.dimacs.specs.Calls.{textLength, writeCall, readCall};
 use answer::Answer;
-use check::Checked;
+use clausebytes::check::Checked;
+use clausebytes::check::check;
+use clausebytes::limits::MOST_CLAUSES;
+use clausebytes::limits::MOST_VARIABLES;
+use clausebytes::word::room;
+use state::State;
+use text::head;
+use text::head::Form;
+use text::number::width;
 
 // The bytes of a text: the header line, and the lines of the clauses.
 fn size(variables: u32, count: u32, lines: usize) -> usize
-    requires { ⌜ variables < 100000 ⌝ }
-    requires { ⌜ count < 100000 ⌝ }
-    requires { ⌜ lines + 18 < 2 ^ 64 ⌝ }
-    ensures { λ r. ⌜ r ≡ lines + (length (decimal variables) + length (decimal count) + 8) ⌝ }
+    requires { ⌜ lines < 2 ^ 32 ⌝ }
+    ensures { λ r. ⌜ r ≡ length (headerLine variables count) + lines ⌝ }
 {
-    lines + (word::width(variables) + word::width(count) + 8)
+    8 + width(variables) + width(count) + lines
 }
 
 // How long the text of clause bytes is; 0 where they are wrong.
 pub fn text_length(clauses: &[u8], variables: u32) -> usize
     ensures { λ r. ⌜ r ≡ textLength (now (clauses .entry)) variables ⌝ }
 {
-    match check::check(clauses, variables) {
+    match check(clauses, variables) {
         Checked::Wrong => 0,
-        Checked::Sized(count, lines) => size(variables, count, lines),
+        Checked::Counted {
+            clauses: count,
+            literals: _,
+        } => size(variables, count, writer::lines_size(clauses)),
     }
 }
 
@@ -45,10 +47,13 @@ pub fn text_length(clauses: &[u8], variables: u32) -> usize
 pub fn write(clauses: &[u8], variables: u32, text: &mut [u8]) -> Answer
     ensures { λ r. ⌜ record { answer = r; output = now (text .exit) } ≡ writeCall (now (clauses .entry)) variables (now (text .entry)) ⌝ }
 {
-    match check::check(clauses, variables) {
+    match check(clauses, variables) {
         Checked::Wrong => Answer::ClauseBytes,
-        Checked::Sized(count, lines) => {
-            if text.len() < size(variables, count, lines) {
+        Checked::Counted {
+            clauses: count,
+            literals: _,
+        } => {
+            if text.len() < size(variables, count, writer::lines_size(clauses)) {
                 return Answer::Room;
             }
             writer::put_text(clauses, variables, count, text);
@@ -60,21 +65,42 @@ pub fn write(clauses: &[u8], variables: u32, text: &mut [u8]) -> Answer
     }
 }
 
+// The form of the header: `cnf`, variables and clauses.
+fn cnf_form() -> Form
+    ensures { λ r. ⌜ r ≡ cnf ⌝ }
+{
+    Form {
+        first: 99,
+        second: 110,
+        third: 102,
+        pair: true,
+        before: MOST_VARIABLES,
+        last: MOST_CLAUSES,
+    }
+}
+
 // Reads a text as clause bytes; reports the declared variables and the clauses.
 pub fn read(text: &[u8], clauses: &mut [u8]) -> Answer
     ensures { λ r. ⌜ record { answer = r; output = now (clauses .exit) } ≡ readCall (now (text .entry)) (now (clauses .entry)) ⌝ }
 {
-    let end = reader::walk(text, false, clauses);
-    if !reader::is_accepted(end) {
+    let head = head::read(text, cnf_form());
+    let from = head.place;
+    if !head.is_done() {
+        return Answer::Text { place: from };
+    }
+    let variables = head.before;
+    let declared = head.value;
+    let start = State::start(from, variables, declared);
+    let end = reader::walk(text, from, start, false, clauses);
+    if !end.is_accepted() {
         return Answer::Text { place: end.place };
     }
-    let words = (end.literals as usize) + (end.clauses as usize);
-    if clauses.len() < 4 * words {
+    if clauses.len() < room(declared, end.literals) {
         return Answer::Room;
     }
-    reader::walk(text, true, clauses);
+    reader::walk(text, from, start, true, clauses);
     Answer::Accepted {
-        first: end.variables,
-        second: end.declared,
+        first: variables,
+        second: declared,
     }
 }

@@ -1,31 +1,10 @@
-// The phases of the reader, and what it does with a byte.
+// The phases of the reader behind the header, and what it does with a byte.
+ghost use mathlib.Core.Path.{_≡_};
+ghost use Rattle.dimacs.specs.Inner.Table.{endsIn, actOf, tokenOf};
+use crate::class::Class;
 
 // Where in a text the reader is.
 pub enum Phase {
-    // At the start of a line, before the header.
-    Line,
-    // In a line that starts with `c`.
-    Comment,
-    // Behind `p`.
-    Problem,
-    // Between `p` and `cnf`.
-    BeforeName,
-    // Behind the `c` of `cnf`.
-    NameC,
-    // Behind the `n` of `cnf`.
-    NameN,
-    // Behind `cnf`.
-    Name,
-    // Between `cnf` and the variables.
-    BeforeVariables,
-    // In the variables.
-    Variables,
-    // Between the variables and the clauses.
-    BeforeClauses,
-    // In the clauses.
-    Clauses,
-    // Behind the clauses and a space, before the newline.
-    AfterClauses,
     // Where a literal or a zero may begin.
     Between,
     // Right behind a zero.
@@ -44,42 +23,8 @@ pub enum Phase {
 pub enum Act {
     // No accepted text goes on so.
     Die,
-    // A comment ends.
-    GoLine,
-    // In a comment.
-    GoComment,
-    // The `p` of the header.
-    GoProblem,
-    // Space behind `p`.
-    GoBeforeName,
-    // The `c` of `cnf`.
-    GoNameC,
-    // The `n` of `cnf`.
-    GoNameN,
-    // The `f` of `cnf`.
-    GoName,
-    // Space behind `cnf`.
-    GoBeforeVariables,
-    // The first digit of the variables.
-    FirstVariables,
-    // A further digit of the variables.
-    MoreVariables,
-    // Space behind the variables: they are read.
-    Declare,
-    // More space before the clauses.
-    GoBeforeClauses,
-    // The first digit of the clauses.
-    FirstClauses,
-    // A further digit of the clauses.
-    MoreClauses,
-    // Space behind the clauses: they are read.
-    Promise,
-    // The newline right behind the clauses: they are read.
-    PromiseLast,
-    // More space behind the clauses.
-    GoAfterClauses,
-    // White space in the body, or the newline that ends the header.
-    GoBetween,
+    // White space that ends no literal.
+    Go,
     // A zero.
     Close,
     // The first digit of a literal without `-`.
@@ -94,4 +39,90 @@ pub enum Act {
     EndPlain,
     // White space behind a literal with `-`.
     EndNegated,
+}
+
+// What is complete with a byte, for the reader that writes.
+pub enum Token {
+    Nothing,
+    // The zero that closes a clause.
+    Zero,
+    // A literal without `-`.
+    Positive,
+    // A literal with `-`.
+    Negative,
+}
+
+// Whether a text may end in a phase.
+pub fn ends_in(phase: Phase) -> bool
+    ensures { λ r. ⌜ r ≡ endsIn phase ⌝ }
+{
+    match phase {
+        Phase::Between => true,
+        Phase::Closed => true,
+        Phase::Sign => false,
+        Phase::Plain => false,
+        Phase::Negated => false,
+        Phase::Dead => false,
+    }
+}
+
+// What is done in a phase with a byte of a class.
+pub fn act_of(phase: Phase, class: Class) -> Act
+    ensures { λ r. ⌜ r ≡ actOf phase class ⌝ }
+{
+    match phase {
+        Phase::Between => match class {
+            Class::Nought => Act::Close,
+            Class::Digit => Act::Begin,
+            Class::Minus => Act::Turn,
+            Class::White => Act::Go,
+            Class::Other => Act::Die,
+        },
+        Phase::Closed => match class {
+            Class::Nought => Act::Die,
+            Class::Digit => Act::Die,
+            Class::Minus => Act::Die,
+            Class::White => Act::Go,
+            Class::Other => Act::Die,
+        },
+        Phase::Sign => match class {
+            Class::Nought => Act::Die,
+            Class::Digit => Act::Lead,
+            Class::Minus => Act::Die,
+            Class::White => Act::Die,
+            Class::Other => Act::Die,
+        },
+        Phase::Plain => match class {
+            Class::Nought => Act::Grow,
+            Class::Digit => Act::Grow,
+            Class::Minus => Act::Die,
+            Class::White => Act::EndPlain,
+            Class::Other => Act::Die,
+        },
+        Phase::Negated => match class {
+            Class::Nought => Act::Grow,
+            Class::Digit => Act::Grow,
+            Class::Minus => Act::Die,
+            Class::White => Act::EndNegated,
+            Class::Other => Act::Die,
+        },
+        Phase::Dead => Act::Die,
+    }
+}
+
+// What is complete with the byte that an act is for.
+pub fn token_of(act: Act) -> Token
+    ensures { λ r. ⌜ r ≡ tokenOf act ⌝ }
+{
+    match act {
+        Act::Die => Token::Nothing,
+        Act::Go => Token::Nothing,
+        Act::Close => Token::Zero,
+        Act::Begin => Token::Nothing,
+        Act::Turn => Token::Nothing,
+        Act::Lead => Token::Nothing,
+        Act::Grow => Token::Nothing,
+        Act::EndPlain => Token::Positive,
+        Act::EndNegated => Token::Negative,
+    }
 }

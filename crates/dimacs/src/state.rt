@@ -1,25 +1,26 @@
-// The reader's state: it goes in by value with each byte, and the advanced state comes back.
+// The reader's state behind the header: it goes in by value with each byte, and the advanced state comes back.
 ghost use mathlib.Core.Path.{_≡_};
 ghost use Prim.Native.Nat.{_<_};
-ghost use Rattle.dimacs.specs.States.{startOf, lastPlace, toOf, deadOf, moreOf, declareOf, promiseOf, closeOf, openOf};
-ghost use Rattle.dimacs.specs.States.{beginOf, turnOf, leadOf, moveOf};
-ghost use Rattle.dimacs.specs.Reader.{steppedOf};
+ghost use Rattle.text.specs.Inner.Heads.{lastPlace};
+ghost use Rattle.dimacs.specs.Inner.States.{startOf, toOf, deadOf, takenOf, closeOf, openOf, begunOf, turnOf, moveOf, steppedOf};
+ghost use Rattle.dimacs.specs.Inner.States.{accepts};
 use crate::class::class_of;
-use crate::class::digit_of;
-use crate::limits::MOST_CLAUSES;
-use crate::limits::MOST_LITERALS;
-use crate::limits::MOST_VARIABLES;
 use crate::phase::Act;
 use crate::phase::Phase;
-use crate::table::act_of;
-use crate::token::Token;
-use crate::token::token_of;
+use crate::phase::Token;
+use crate::phase::act_of;
+use crate::phase::ends_in;
+use crate::phase::token_of;
+use clausebytes::limits::MOST_LITERALS;
+use text::number::Number;
+use text::number::digit_of;
+use text::number::grown;
 
 pub struct State {
     pub phase: Phase,
     // The running place: bytes passed while the text begins some accepted text.
     pub place: usize,
-    // What has been read of a number.
+    // What has been read of a literal.
     pub value: u32,
     pub variables: u32,
     // The clauses that the header declares.
@@ -37,22 +38,33 @@ pub struct Stepped {
 }
 
 impl State {
-    // Before the first byte.
-    pub fn start() -> State
-        ensures { λ r. ⌜ r ≡ startOf ⌝ }
+    // Right behind a header.
+    pub fn start(place: usize, variables: u32, declared: u32) -> State
+        ensures { λ r. ⌜ r ≡ startOf place variables declared ⌝ }
     {
         State {
-            phase: Phase::Line,
-            place: 0,
+            phase: Phase::Between,
+            place,
             value: 0,
-            variables: 0,
-            declared: 0,
+            variables,
+            declared,
             clauses: 0,
             literals: 0,
         }
     }
 
-    // One byte on, to a phase, with what is read of a number there.
+    // Whether a text that ends in this state is accepted.
+    pub fn is_accepted(self) -> bool
+        ensures { λ r. ⌜ r ≡ accepts self ⌝ }
+    {
+        let phase = self.phase;
+        if ends_in(phase) {
+            return self.clauses == self.declared;
+        }
+        false
+    }
+
+    // One byte on, to a phase, with what is read of a literal there.
     fn to(self, phase: Phase, value: u32) -> State
         requires { ⌜ self .place < lastPlace ⌝ }
         ensures { λ r. ⌜ r ≡ toOf self phase value ⌝ }
@@ -75,7 +87,7 @@ impl State {
         State {
             phase: Phase::Dead,
             place: self.place,
-            value: 0,
+            value: self.value,
             variables: self.variables,
             declared: self.declared,
             clauses: self.clauses,
@@ -83,52 +95,14 @@ impl State {
         }
     }
 
-    // A further digit of a number that has a limit.
-    fn more(self, limit: u32, digit: u32) -> State
+    // A digit was taken in, or could not be.
+    fn taken(self, phase: Phase, number: Number) -> State
         requires { ⌜ self .place < lastPlace ⌝ }
-        ensures { λ r. ⌜ r ≡ moreOf self limit digit ⌝ }
+        ensures { λ r. ⌜ r ≡ takenOf self phase number ⌝ }
     {
-        let value = self.value;
-        if value == 0 {
-            return self.dead();
-        }
-        let grown = (value as u64) * 10 + (digit as u64);
-        if grown > limit as u64 {
-            return self.dead();
-        }
-        let phase = self.phase;
-        self.to(phase, grown as u32)
-    }
-
-    // The variables are read.
-    fn declare(self) -> State
-        requires { ⌜ self .place < lastPlace ⌝ }
-        ensures { λ r. ⌜ r ≡ declareOf self ⌝ }
-    {
-        State {
-            phase: Phase::BeforeClauses,
-            place: self.place + 1,
-            value: 0,
-            variables: self.value,
-            declared: self.declared,
-            clauses: self.clauses,
-            literals: self.literals,
-        }
-    }
-
-    // The number of clauses is read.
-    fn promise(self, phase: Phase) -> State
-        requires { ⌜ self .place < lastPlace ⌝ }
-        ensures { λ r. ⌜ r ≡ promiseOf self phase ⌝ }
-    {
-        State {
-            phase,
-            place: self.place + 1,
-            value: 0,
-            variables: self.variables,
-            declared: self.value,
-            clauses: self.clauses,
-            literals: self.literals,
+        match number {
+            Number::Wrong => self.dead(),
+            Number::Is(value) => self.to(phase, value),
         }
     }
 
@@ -153,7 +127,7 @@ impl State {
     }
 
     // A literal begins, if a clause and a literal are still to come.
-    fn enter(self, phase: Phase, value: u32) -> State
+    fn open(self, phase: Phase, value: u32) -> State
         requires { ⌜ self .place < lastPlace ⌝ }
         ensures { λ r. ⌜ r ≡ openOf self phase value ⌝ }
     {
@@ -175,15 +149,15 @@ impl State {
         }
     }
 
-    // The first digit of a literal without `-`.
-    fn begin(self, digit: u32) -> State
+    // The first digit of a literal without `-` was taken in, or could not be.
+    fn begun(self, number: Number) -> State
         requires { ⌜ self .place < lastPlace ⌝ }
-        ensures { λ r. ⌜ r ≡ beginOf self digit ⌝ }
+        ensures { λ r. ⌜ r ≡ begunOf self number ⌝ }
     {
-        if digit > self.variables {
-            return self.dead();
+        match number {
+            Number::Wrong => self.dead(),
+            Number::Is(value) => self.open(Phase::Plain, value),
         }
-        self.enter(Phase::Plain, digit)
     }
 
     // The `-` of a literal, which needs a variable.
@@ -194,18 +168,7 @@ impl State {
         if self.variables == 0 {
             return self.dead();
         }
-        self.enter(Phase::Sign, 0)
-    }
-
-    // The digit behind a `-`.
-    fn lead(self, digit: u32) -> State
-        requires { ⌜ self .place < lastPlace ⌝ }
-        ensures { λ r. ⌜ r ≡ leadOf self digit ⌝ }
-    {
-        if digit > self.variables {
-            return self.dead();
-        }
-        self.to(Phase::Negated, digit)
+        self.open(Phase::Sign, 0)
     }
 
     // Does what an act says.
@@ -213,32 +176,15 @@ impl State {
         requires { ⌜ self .place < lastPlace ⌝ }
         ensures { λ r. ⌜ r ≡ moveOf act self digit ⌝ }
     {
-        let limit = self.variables;
+        let phase = self.phase;
         match act {
             Act::Die => self.dead(),
-            Act::GoLine => self.to(Phase::Line, 0),
-            Act::GoComment => self.to(Phase::Comment, 0),
-            Act::GoProblem => self.to(Phase::Problem, 0),
-            Act::GoBeforeName => self.to(Phase::BeforeName, 0),
-            Act::GoNameC => self.to(Phase::NameC, 0),
-            Act::GoNameN => self.to(Phase::NameN, 0),
-            Act::GoName => self.to(Phase::Name, 0),
-            Act::GoBeforeVariables => self.to(Phase::BeforeVariables, 0),
-            Act::FirstVariables => self.to(Phase::Variables, digit),
-            Act::MoreVariables => self.more(MOST_VARIABLES, digit),
-            Act::Declare => self.declare(),
-            Act::GoBeforeClauses => self.to(Phase::BeforeClauses, 0),
-            Act::FirstClauses => self.to(Phase::Clauses, digit),
-            Act::MoreClauses => self.more(MOST_CLAUSES, digit),
-            Act::Promise => self.promise(Phase::AfterClauses),
-            Act::PromiseLast => self.promise(Phase::Between),
-            Act::GoAfterClauses => self.to(Phase::AfterClauses, 0),
-            Act::GoBetween => self.to(Phase::Between, 0),
+            Act::Go => self.to(Phase::Between, 0),
             Act::Close => self.close(),
-            Act::Begin => self.begin(digit),
+            Act::Begin => self.begun(grown(false, 0, digit, self.variables)),
             Act::Turn => self.turn(),
-            Act::Lead => self.lead(digit),
-            Act::Grow => self.more(limit, digit),
+            Act::Lead => self.taken(Phase::Negated, grown(false, 0, digit, self.variables)),
+            Act::Grow => self.taken(phase, grown(true, self.value, digit, self.variables)),
             Act::EndPlain => self.to(Phase::Between, 0),
             Act::EndNegated => self.to(Phase::Between, 0),
         }

@@ -1,27 +1,20 @@
--- "Numbers of refusal": the check of a table, refusals 1 to 3 in their order.
+-- R10.10 to R10.12: the check of a table.
 -- Assumes nothing: these are definitions.
 use mathlib.Core.Bool.{Bool, cond, not, _||_}
 use mathlib.Core.List.{List}
-use mathlib.Core.Path.{_≡_}
-use Prim.Native.Nat.{ℕ, _*_, _/_, _%_, _<_, _≤_}
+use Prim.Native.Nat.{ℕ, _%_}
 use lib.Dec.{eqb, ltb}
 use lib.ListN.{length}
-use Rattle.laws.specs.First.{first}
-use Rattle.answer.specs.declared.Answer.{Answer}
-use Rattle.answer.specs.declared.Answer.the-variants.{Accepted, TableLength, Options, Record}
-use Rattle.formula.specs.Limits.{nodeBytes, mostNodes, mostOptions}
+use Rattle.laws.specs.Lists.{first}
+use Rattle.formula.specs.Limits.{nodeBytes, mostTable, mostOptions}
 use Rattle.formula.specs.Nodes.{nodeAt, nodeCount}
 use Rattle.formula.specs.Records.{faultOf}
+use Rattle.answer.specs.declared.Answer.{Answer}
+use Rattle.answer.specs.declared.Answer.the-variants.{Accepted, TableLength, Options, Record}
 
--- "table empty, not a multiple of 5 bytes, or over 5,120"
+-- R10.10
 abbrev pub lengthWrong : ℕ → Bool
-lengthWrong n = eqb n 0 || (not (eqb (n % nodeBytes) 0) || ltb (nodeBytes * mostNodes) n)
-
--- a right length: some whole nodes, and no more than a table may have
-pub record RightLength (n : ℕ) : Type 0 where
-  pub some : 0 < n / nodeBytes
-  pub even : n % nodeBytes ≡ 0
-  pub most : n ≤ nodeBytes * mostNodes
+lengthWrong n = eqb n 0 || (not (eqb (n % nodeBytes) 0) || ltb mostTable n)
 
 -- whether the record of node i is right
 abbrev pub recordRight : List ℕ → ℕ → ℕ → Bool
@@ -31,7 +24,7 @@ recordRight t v i = eqb (faultOf v i (nodeAt t i)) 0
 abbrev pub firstWrong : List ℕ → ℕ → ℕ
 firstWrong t v = first (recordRight t v) (nodeCount t)
 
--- the answer of a check: table t, V = v
+-- the answer of a check of table t for v options
 abbrev pub checked : List ℕ → ℕ → Answer
 checked t v =
     cond (lengthWrong (length t)) TableLength

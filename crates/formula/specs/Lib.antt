@@ -1,4 +1,4 @@
--- The formula table, in the order of the rules.
+-- The formula table, in the order of the rules. What only inner contracts cite stands in Inner.
 pub mod Limits
 pub mod Nodes
 pub mod Records
@@ -7,3 +7,4 @@ pub mod Marks
 pub mod Paths
 pub mod Sets
 pub mod Truths
+pub mod Inner

@@ -1,13 +1,11 @@
--- "Polarity and renamed nodes": the marks of all nodes, computed from the root down, and how an array holds them.
+-- R3.1 to R3.7: the marks of all nodes, computed from the root down; and the halves that a mark asks for.
 -- Assumes nothing: these are definitions.
-use mathlib.Core.Bool.{Bool, true, false, cond, _||_}
-use mathlib.Core.List.{List, map}
-use Prim.Native.Nat.{ℕ, zero, suc, _+_, _-_, _/_, _%_}
-use lib.Dec.{eqb, ltb}
+use mathlib.Core.Bool.{true, false, _||_}
+use mathlib.Core.List.{List}
+use Prim.Native.Nat.{ℕ, zero, suc, _-_}
 use lib.ListN.{length, getD, set, replicate}
-use Rattle.laws.specs.Arrays.{padTo}
-use Rattle.formula.specs.Limits.{mostNodes}
 use Rattle.formula.specs.Nodes.{nodeIn}
+use Rattle.formula.specs.declared.mark.Halves.{Halves}
 use Rattle.formula.specs.declared.mark.Mark.{Mark}
 use Rattle.formula.specs.declared.node.Kind.{Kind}
 use Rattle.formula.specs.declared.node.Kind.the-variants.{False, True, Symbol, Not, And, Or, Implies, Equivalent, Unknown}
@@ -20,7 +18,7 @@ unmarked = record { positive = false; negative = false }
 abbrev pub positive : Mark
 positive = record { positive = true; negative = false }
 
--- "A node reached both ways has both"
+-- R3.6
 abbrev pub joined : Mark → Mark → Mark
 joined m n = record { positive = m .positive || n .positive; negative = m .negative || n .negative }
 
@@ -30,7 +28,7 @@ turned m = record { positive = m .negative; negative = m .positive }
 abbrev pub doubled : Mark → Mark
 doubled m = joined m (turned m)
 
--- what a node with mark m gives to its child a ..
+-- R3.2 to R3.5: what a node with mark m gives to its child a ..
 abbrev pub toA : Kind → Mark → Mark
 toA False m = unmarked
 toA True m = unmarked
@@ -71,7 +69,7 @@ unfoldable pub downFrom : List Node → ℕ → List Mark → List Mark
 downFrom ns zero ms = ms
 downFrom ns (suc k) ms = downFrom ns k (passOn (nodeIn ns k) (markIn ms k) ms)
 
--- "The root is positive": the marks before anything is passed on
+-- R3.1: the marks before anything is passed on
 abbrev pub rootMarked : ℕ → List Mark
 rootMarked n = set (replicate n unmarked) (n - 1) positive
 
@@ -82,23 +80,6 @@ marksOf ns = downFrom ns (length ns) (rootMarked (length ns))
 abbrev pub markOf : List Node → ℕ → Mark
 markOf ns i = markIn (marksOf ns) i
 
--- the byte of a mark, and the mark of a byte
-abbrev pub byteOf : Mark → ℕ
-byteOf m = cond (m .positive) 1 0 + cond (m .negative) 2 0
-
-abbrev pub markBy : ℕ → Mark
-markBy b = record { positive = eqb (b % 2) 1; negative = eqb (b / 2 % 2) 1 }
-
--- the marks as an array holds them: a byte a node, then zeros
-abbrev pub held : List Mark → List ℕ
-held ms = padTo mostNodes 0 (map byteOf ms)
-
--- an array of marks, read and set
-abbrev pub heldAt : List ℕ → ℕ → Mark
-heldAt l i = markBy (getD l i 0)
-
-abbrev pub heldMore : ℕ → List ℕ → ℕ → Mark → List ℕ
-heldMore count l i m = cond (ltb i count) (set l i (byteOf (joined (heldAt l i) m))) l
-
-abbrev pub heldPassed : ℕ → List ℕ → ℕ → Node → List ℕ
-heldPassed count l i n = heldMore count (heldMore count l (n .a) (toA (n .kind) (heldAt l i))) (n .b) (toB (n .kind) (heldAt l i))
+-- R5.5 to R5.7: which halves the definition of a renamed node has
+abbrev pub halvesOf : Mark → Halves
+halvesOf m = record { down = m .positive; up = m .negative }

@@ -1,23 +1,23 @@
--- "The formula table": a node is a kind byte and two little-endian fields; nodes are numbered from 0.
+-- R2: the nodes of a table's bytes.
 -- Assumes nothing: these are definitions.
-use mathlib.Core.List.{List, [], _∷_}
+use mathlib.Core.List.{List, [], _∷_, _++_}
 use Prim.Native.Nat.{ℕ, _+_, _*_, _/_}
 use lib.ListN.{length, getD}
-use Rattle.laws.specs.Bytes.{littleAt}
-use Rattle.laws.specs.Upward.{upTo}
+use Rattle.laws.specs.Lists.{upTo}
+use Rattle.laws.specs.Numbers.{little, littleAt}
 use Rattle.formula.specs.Limits.{fieldBytes, nodeBytes}
 use Rattle.formula.specs.declared.node.Kind.{Kind}
 use Rattle.formula.specs.declared.node.Kind.the-variants.{False, True, Symbol, Not, And, Or, Implies, Equivalent, Unknown}
 use Rattle.formula.specs.declared.node.Node.{Node}
 
--- the kinds, by their numbers from 0 on
+-- R2.13 to R2.20: the kinds, by their numbers from 0 on
 abbrev pub kinds : List Kind
 kinds = False ∷ True ∷ Symbol ∷ Not ∷ And ∷ Or ∷ Implies ∷ Equivalent ∷ []
 
 abbrev pub kindOf : ℕ → Kind
 kindOf number = getD kinds number Unknown
 
--- node i of a table's bytes
+-- R2.1: node i of a table, and the bytes of a node
 abbrev pub nodeAt : List ℕ → ℕ → Node
 nodeAt t i = record {
   kind = kindOf (getD t (nodeBytes * i) 0);
@@ -25,10 +25,13 @@ nodeAt t i = record {
   b = littleAt fieldBytes t (nodeBytes * i + 1 + fieldBytes);
 }
 
+abbrev pub nodeRecord : ℕ → ℕ → ℕ → List ℕ
+nodeRecord kind a b = kind ∷ (little fieldBytes a ++ little fieldBytes b)
+
 abbrev pub nodeCount : List ℕ → ℕ
 nodeCount t = length t / nodeBytes
 
--- the nodes of a table's bytes, from node 0 on
+-- R2.2
 abbrev pub nodesOf : List ℕ → List Node
 nodesOf t = upTo (λ before i. nodeAt t i) (nodeCount t)
 

@@ -1,4 +1,4 @@
--- "Polarity and renamed nodes", read as it is written: a path from the root gives a node a sign.
+-- R3.1 to R3.6, as they are written: a way from the root gives a node a sign.
 -- Assumes nothing: this is a definition.
 use mathlib.Core.Bool.{Bool, true, false, not}
 use mathlib.Core.List.{List}

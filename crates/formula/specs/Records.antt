@@ -1,19 +1,15 @@
--- "The formula table": what a record's fields hold, by its kind, and the rule of a record.
+-- R2.9, R2.10: what the fields of a record hold, by its kind, and the rule of a record.
 -- Assumes nothing: these are definitions.
-use mathlib.Core.Bool.{Bool, true, false, cond, _&&_}
-use mathlib.Core.List.{List}
-use mathlib.Core.Path.{_≡_}
-use Prim.Native.Nat.{ℕ, _<_, _≤_}
+use mathlib.Core.Bool.{Bool, true, false, cond}
+use Prim.Native.Nat.{ℕ}
 use lib.Dec.{eqb, leb, ltb}
-use lib.ListN.{length}
-use Rattle.formula.specs.Nodes.{nodeIn}
 use Rattle.formula.specs.declared.node.Kind.{Kind}
 use Rattle.formula.specs.declared.node.Kind.the-variants as kind
 use Rattle.formula.specs.declared.node.Node.{Node}
 use Rattle.formula.specs.declared.node.Use.{Use}
 use Rattle.formula.specs.declared.node.Use.the-variants as held
 
--- the column "kind": 0 to 7
+-- R2.10
 abbrev pub known : Kind → Bool
 known kind.False = true
 known kind.True = true
@@ -25,7 +21,7 @@ known kind.Implies = true
 known kind.Equivalent = true
 known kind.Unknown = false
 
--- the column "a"
+-- R2.13 to R2.20, the column a
 abbrev pub useOfA : Kind → Use
 useOfA kind.False = held.Unused
 useOfA kind.True = held.Unused
@@ -37,7 +33,7 @@ useOfA kind.Implies = held.Child
 useOfA kind.Equivalent = held.Child
 useOfA kind.Unknown = held.Unused
 
--- the column "b"
+-- and the column b
 abbrev pub useOfB : Kind → Use
 useOfB kind.False = held.Unused
 useOfB kind.True = held.Unused
@@ -49,7 +45,7 @@ useOfB kind.Implies = held.Child
 useOfB kind.Equivalent = held.Child
 useOfB kind.Unknown = held.Unused
 
--- an unused field is 0, a child's number is below its parent's, an option symbol is 1 to V
+-- an unused field is 0, a child is below its parent (R2.3), a symbol is one of 1 to V
 abbrev pub fieldRight : ℕ → ℕ → Use → ℕ → Bool
 fieldRight v i held.Unused x = eqb x 0
 fieldRight v i held.Child x = ltb x i
@@ -63,23 +59,3 @@ faultOf v i n =
     (cond (fieldRight v i (useOfB (n .kind)) (n .b)) 0 3)
     3)
     3
-
--- a field that holds a child is below i
-abbrev pub FieldBelow : ℕ → Use → ℕ → Type 0
-FieldBelow i held.Unused x = Unit {0}
-FieldBelow i held.Child x = x < i
-FieldBelow i held.Symbol x = Unit {0}
-
--- the children of node i are below it
-abbrev pub Below : ℕ → Node → Type 0
-Below i n = FieldBelow i (useOfA (n .kind)) (n .a) × FieldBelow i (useOfB (n .kind)) (n .b)
-
--- "A child's number is below its parent's", for all nodes
-abbrev pub ChildrenBelow : List Node → Type 0
-ChildrenBelow ns = (i : ℕ) → Below i (nodeIn ns i)
-
--- what the check of a table gives: some nodes, children below their parents, and symbols from 1 to V
-pub record WellFormed (v : ℕ) (ns : List Node) : Type 0 where
-  pub some : 0 < length ns
-  pub below : (i : ℕ) → Below i (nodeIn ns i)
-  pub symbols : (i : ℕ) → nodeIn ns i .kind ≡ kind.Symbol → (0 < nodeIn ns i .a) × (nodeIn ns i .a ≤ v)

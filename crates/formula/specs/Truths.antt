@@ -1,10 +1,10 @@
--- The truth of a node in a row of truth values, one for each symbol.
+-- R2.12: the truth of a node in a row of truth values, one for each variable.
 -- Assumes nothing: these are definitions.
 use mathlib.Core.Bool.{Bool, true, false, not, _&&_, _||_, Bool·beq}
 use mathlib.Core.List.{List}
 use Prim.Native.Nat.{ℕ, _-_}
 use lib.ListN.{length, getD}
-use Rattle.laws.specs.Upward.{upTo}
+use Rattle.laws.specs.Lists.{upTo}
 use Rattle.formula.specs.Nodes.{nodeIn}
 use Rattle.formula.specs.declared.node.Kind.{Kind}
 use Rattle.formula.specs.declared.node.Kind.the-variants.{False, True, Symbol, Not, And, Or, Implies, Equivalent, Unknown}

@@ -1,12 +1,11 @@
 // Polarity marks: whether the root reaches a node positively, negatively, or both ways.
 ghost use mathlib.Core.Path.{_≡_};
-ghost use Prim.Native.Nat.{_*_, _≤_};
-ghost use lib.ListN.{length};
-ghost use Rattle.formula.specs.Limits.{nodeBytes, mostNodes};
+ghost use Prim.Native.Nat.{_<_, _≤_};
+ghost use Rattle.formula.specs.Inner.Held.{byteOf, heldAt, heldMore, heldPassed, held, Unmarked};
+ghost use Rattle.formula.specs.Limits.{mostNodes};
+ghost use Rattle.formula.specs.Marks.{unmarked, joined, turned, doubled, toA, toB, marksOf, halvesOf};
 ghost use Rattle.formula.specs.Nodes.{nodesOf};
-ghost use Rattle.formula.specs.Marks.{unmarked, joined, turned, doubled, toA, toB, byteOf, markBy, heldAt, heldMore, heldPassed, held, marksOf};
 use crate::node::Kind;
-use crate::node::MOST_NODES;
 use crate::node::NODE_BYTES;
 use crate::node::Node;
 use crate::node::node_at;
@@ -14,6 +13,22 @@ use crate::node::node_at;
 pub struct Mark {
     pub positive: bool,
     pub negative: bool,
+}
+
+// Which halves the definition of a renamed node has.
+pub struct Halves {
+    pub down: bool,
+    pub up: bool,
+}
+
+// The halves of a node with a mark.
+pub fn halves_of(m: Mark) -> Halves
+    ensures { λ r. ⌜ r ≡ halvesOf m ⌝ }
+{
+    Halves {
+        down: m.positive,
+        up: m.negative,
+    }
 }
 
 // The mark of a node that is not reached.
@@ -106,17 +121,15 @@ fn byte_of(m: Mark) -> u8
 }
 
 // The mark of a node, as an array of marks holds it.
-pub fn read(marks: &[u8], i: usize) -> Mark
+pub fn read(marks: &[u8; 1024], i: usize) -> Mark
+    requires { ⌜ i < mostNodes ⌝ }
     ensures { λ r. ⌜ r ≡ heldAt (now (marks .entry)) i ⌝ }
 {
-    if i < marks.len() {
-        let b = marks[i];
-        return Mark {
-            positive: b % 2 == 1,
-            negative: b / 2 % 2 == 1,
-        };
+    let b = marks[i];
+    Mark {
+        positive: b % 2 == 1,
+        negative: b / 2 % 2 == 1,
     }
-    no_mark()
 }
 
 // Marks node `i` with `m` too, in an array of the marks of `count` nodes.
@@ -132,6 +145,7 @@ fn add(marks: &mut [u8; 1024], count: usize, i: usize, m: Mark)
 
 // Node `i` passes its mark on to its children.
 fn pass(marks: &mut [u8; 1024], count: usize, i: usize, node: Node)
+    requires { ⌜ i < count ⌝ }
     requires { ⌜ count ≤ mostNodes ⌝ }
     ensures { λ _. ⌜ now (marks .exit) ≡ heldPassed count (now (marks .entry)) i node ⌝ }
 {
@@ -141,21 +155,16 @@ fn pass(marks: &mut [u8; 1024], count: usize, i: usize, node: Node)
     add(marks, count, node.b, to_b(kind, m));
 }
 
-// The marks of all nodes of a table: the root is positive, and each node, from the root down, passes its mark on.
-pub fn marks(table: &[u8]) -> [u8; 1024]
-    requires { ⌜ length (now table) ≤ nodeBytes * mostNodes ⌝ }
-    ensures { λ r. ⌜ r ≡ held (marksOf (nodesOf (now (table .entry)))) ⌝ }
+// Marks all nodes of a table: the root is positive, and each node, from the root down, passes its mark on.
+pub fn mark_all(table: &[u8], marks: &mut [u8; 1024])
+    requires { ⌜ Unmarked (now table) (now marks) ⌝ }
+    ensures { λ _. ⌜ now (marks .exit) ≡ held (marksOf (nodesOf (now (table .entry)))) ⌝ }
 {
-    let mut all = [0u8; MOST_NODES];
     let count = table.len() / NODE_BYTES;
-    if count == 0 {
-        return all;
-    }
-    all[count - 1] = 1;
+    marks[count - 1] = 1;
     let mut i = count;
     while 0 < i {
         i -= 1;
-        pass(&mut all, count, i, node_at(table, i));
+        pass(marks, count, i, node_at(table, i));
     }
-    all
 }

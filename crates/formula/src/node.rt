@@ -1,18 +1,21 @@
-// A node of the formula table: its record, decoded here and nowhere else, and the rule that a record keeps.
+// A node of the formula table: its record, read and written here and nowhere else, and the rule that a record keeps.
 ghost use mathlib.Core.Path.{_≡_};
-ghost use Prim.Native.Nat.{_+_, _*_, _<_};
-ghost use lib.ListN.{getD};
-ghost use Rattle.laws.specs.Bytes.{littleAt};
-ghost use Rattle.formula.specs.Limits.{fieldBytes, mostNodes};
-ghost use Rattle.formula.specs.Nodes.{kindOf, nodeAt};
+ghost use Prim.Native.Nat.{_+_, _<_, _≤_};
+ghost use lib.ListN.{length};
+ghost use Rattle.laws.specs.Lists.{splice};
+ghost use Rattle.laws.specs.Numbers.{little, littleAt};
+ghost use Rattle.formula.specs.Limits.{fieldBytes, nodeBytes};
+ghost use Rattle.formula.specs.Nodes.{kindOf, nodeAt, nodeCount, nodeRecord};
 ghost use Rattle.formula.specs.Records.{known, useOfA, useOfB, fieldRight, faultOf};
 
 // Bytes of a field, and of a node: its kind and two fields.
 pub const FIELD_BYTES: usize = 2;
 
 pub const NODE_BYTES: usize = 1 + 2 * FIELD_BYTES;
-// Limits of a table: nodes, and the project's options.
+// Limits of a table: nodes, bytes, and the project's options.
 pub const MOST_NODES: usize = 1024;
+
+pub const MOST_TABLE: usize = NODE_BYTES * MOST_NODES;
 
 pub const MOST_OPTIONS: u32 = 32_000;
 
@@ -45,25 +48,25 @@ pub enum Use {
     Symbol,
 }
 
-// The byte at a place, 0 past the end.
-fn byte_at(table: &[u8], at: usize) -> usize
-    ensures { λ r. ⌜ (r ≡ getD (now (table .entry)) at 0) × (r < 256) ⌝ }
-{
-    if at < table.len() {
-        table[at] as usize
-    } else {
-        0
-    }
-}
-
-// The field at a place.
+// The field from a place on.
 fn field_at(table: &[u8], at: usize) -> usize
-    requires { ⌜ at < 65536 ⌝ }
+    requires { ⌜ at + fieldBytes ≤ length (now table) ⌝ }
     ensures { λ r. ⌜ r ≡ littleAt fieldBytes (now (table .entry)) at ⌝ }
 {
-    let low = byte_at(table, at);
-    let high = byte_at(table, at + 1);
-    low + 256 * high
+    let mut field = 0;
+    let mut i = FIELD_BYTES;
+    while 0 < i {
+        i -= 1;
+        field = 256 * field + wide(table[at + i]);
+    }
+    field
+}
+
+// A byte as a number.
+fn wide(byte: u8) -> usize
+    ensures { λ r. ⌜ (r ≡ byte) × (r < 256) ⌝ }
+{
+    byte as usize
 }
 
 // The kind with a number.
@@ -99,14 +102,38 @@ fn kind_of(number: usize) -> Kind
 
 // Node `i` of a table.
 pub fn node_at(table: &[u8], i: usize) -> Node
-    requires { ⌜ i < mostNodes ⌝ }
+    requires { ⌜ i < nodeCount (now table) ⌝ }
     ensures { λ r. ⌜ r ≡ nodeAt (now (table .entry)) i ⌝ }
 {
     let at = NODE_BYTES * i;
-    let kind = kind_of(byte_at(table, at));
+    let kind = kind_of(wide(table[at]));
     let a = field_at(table, at + 1);
     let b = field_at(table, at + 1 + FIELD_BYTES);
     Node { kind, a, b }
+}
+
+// Stores a field from a place on.
+fn put_field(table: &mut [u8], at: usize, field: usize)
+    requires { ⌜ at + fieldBytes ≤ length (now table) ⌝ }
+    ensures { λ _. ⌜ now (table .exit) ≡ splice (now (table .entry)) at (little fieldBytes field) ⌝ }
+{
+    let mut rest = field;
+    let mut i = 0;
+    while i < FIELD_BYTES {
+        table[at + i] = (rest % 256) as u8;
+        rest = rest / 256;
+        i += 1;
+    }
+}
+
+// Stores the record of a node from a place on.
+pub fn put_node(table: &mut [u8], at: usize, kind: u8, a: usize, b: usize)
+    requires { ⌜ at + nodeBytes ≤ length (now table) ⌝ }
+    ensures { λ _. ⌜ now (table .exit) ≡ splice (now (table .entry)) at (nodeRecord kind a b) ⌝ }
+{
+    table[at] = kind;
+    put_field(table, at + 1, a);
+    put_field(table, at + 1 + FIELD_BYTES, b);
 }
 
 // Whether a kind is one of the table of kinds.

@@ -1,17 +1,23 @@
 // Sets of renamed nodes: which nodes may be renamed, and the check of a lent set, refusal 4.
 ghost use mathlib.Core.Path.{_≡_};
-ghost use Prim.Native.Nat.{_*_, _≤_, _<_};
+ghost use Prim.Native.Nat.{_<_};
 ghost use lib.ListN.{length};
-ghost use Rattle.formula.specs.Limits.{nodeBytes, mostNodes};
+ghost use Rattle.formula.specs.Inner.Held.{Marked, MarkedAt};
 ghost use Rattle.formula.specs.Nodes.{nodeCount, nodesOf};
-ghost use Rattle.formula.specs.Marks.{marksOf, held};
-ghost use Rattle.formula.specs.Sets.{operator, reached, mayRename, byteRight, firstWrongByte, setChecked};
+ghost use Rattle.formula.specs.Sets.{renamed, operator, reached, mayRename, byteRight, firstWrongByte, setChecked};
 use crate::mark::Mark;
 use crate::mark::read;
 use crate::node::Kind;
 use crate::node::NODE_BYTES;
 use crate::node::node_at;
 use answer::Answer;
+
+// Whether node `i` is renamed.
+pub fn is_renamed(set: &[u8], i: usize) -> bool
+    ensures { λ r. ⌜ r ≡ renamed (now (set .entry)) i ⌝ }
+{
+    if i < set.len() { set[i] == 1 } else { false }
+}
 
 // Whether a kind is one of 3 to 7.
 fn is_operator(kind: Kind) -> bool
@@ -38,10 +44,8 @@ fn is_reached(m: Mark) -> bool
 }
 
 // Whether node `i` of a table may be renamed; `marks` are the marks of its nodes.
-pub fn may_rename(table: &[u8], marks: &[u8], i: usize) -> bool
-    requires { ⌜ length (now table) ≤ nodeBytes * mostNodes ⌝ }
-    requires { ⌜ now marks ≡ held (marksOf (nodesOf (now table))) ⌝ }
-    requires { ⌜ i < nodeCount (now table) ⌝ }
+pub fn may_rename(table: &[u8], marks: &[u8; 1024], i: usize) -> bool
+    requires { ⌜ MarkedAt (now table) (now marks) i ⌝ }
     ensures { λ r. ⌜ r ≡ mayRename (nodesOf (now (table .entry))) i ⌝ }
 {
     let node = node_at(table, i);
@@ -56,10 +60,8 @@ pub fn may_rename(table: &[u8], marks: &[u8], i: usize) -> bool
 }
 
 // Whether the byte of node `i` is right: 0, or 1 where the node may be renamed.
-fn is_byte_right(table: &[u8], marks: &[u8], set: &[u8], i: usize) -> bool
-    requires { ⌜ length (now table) ≤ nodeBytes * mostNodes ⌝ }
-    requires { ⌜ now marks ≡ held (marksOf (nodesOf (now table))) ⌝ }
-    requires { ⌜ i < nodeCount (now table) ⌝ }
+fn is_byte_right(table: &[u8], marks: &[u8; 1024], set: &[u8], i: usize) -> bool
+    requires { ⌜ MarkedAt (now table) (now marks) i ⌝ }
     requires { ⌜ i < length (now set) ⌝ }
     ensures { λ r. ⌜ r ≡ byteRight (nodesOf (now (table .entry))) (now (set .entry)) i ⌝ }
 {
@@ -73,9 +75,8 @@ fn is_byte_right(table: &[u8], marks: &[u8], set: &[u8], i: usize) -> bool
 }
 
 // The lowest node whose byte is wrong, or the node count.
-fn first_wrong(table: &[u8], marks: &[u8], set: &[u8]) -> usize
-    requires { ⌜ length (now table) ≤ nodeBytes * mostNodes ⌝ }
-    requires { ⌜ now marks ≡ held (marksOf (nodesOf (now table))) ⌝ }
+fn first_wrong(table: &[u8], marks: &[u8; 1024], set: &[u8]) -> usize
+    requires { ⌜ Marked (now table) (now marks) ⌝ }
     requires { ⌜ length (now set) ≡ nodeCount (now table) ⌝ }
     ensures { λ r. ⌜ r ≡ firstWrongByte (nodesOf (now (table .entry))) (now (set .entry)) ⌝ }
 {
@@ -91,9 +92,8 @@ fn first_wrong(table: &[u8], marks: &[u8], set: &[u8]) -> usize
 }
 
 // Checks a set for a checked table; `marks` are the marks of the table's nodes.
-pub fn check(table: &[u8], marks: &[u8], set: &[u8]) -> Answer
-    requires { ⌜ length (now table) ≤ nodeBytes * mostNodes ⌝ }
-    requires { ⌜ now marks ≡ held (marksOf (nodesOf (now table))) ⌝ }
+pub fn check(table: &[u8], marks: &[u8; 1024], set: &[u8]) -> Answer
+    requires { ⌜ Marked (now table) (now marks) ⌝ }
     ensures { λ r. ⌜ r ≡ setChecked (nodesOf (now (table .entry))) (now (set .entry)) ⌝ }
 {
     let count = table.len() / NODE_BYTES;

@@ -1,11 +1,11 @@
 // The check of a formula table: refusals 1 to 3.
 ghost use mathlib.Core.Path.{_≡_};
-ghost use Prim.Native.Nat.{_*_, _≤_};
+ghost use Prim.Native.Nat.{_≤_};
 ghost use lib.ListN.{length};
-ghost use Rattle.formula.specs.Limits.{nodeBytes, mostNodes};
-ghost use Rattle.formula.specs.Checks.{firstWrong, checked};
-use crate::node::MOST_NODES;
+ghost use Rattle.formula.specs.Limits.{mostTable};
+ghost use Rattle.formula.specs.Checks.{lengthWrong, firstWrong, checked};
 use crate::node::MOST_OPTIONS;
+use crate::node::MOST_TABLE;
 use crate::node::NODE_BYTES;
 use crate::node::fault;
 use crate::node::node_at;
@@ -13,7 +13,7 @@ use answer::Answer;
 
 // The lowest node whose record is wrong, or the node count.
 fn first_wrong(table: &[u8], options: u32) -> usize
-    requires { ⌜ length (now table) ≤ nodeBytes * mostNodes ⌝ }
+    requires { ⌜ length (now table) ≤ mostTable ⌝ }
     ensures { λ r. ⌜ r ≡ firstWrong (now (table .entry)) options ⌝ }
 {
     let count = table.len() / NODE_BYTES;
@@ -27,20 +27,29 @@ fn first_wrong(table: &[u8], options: u32) -> usize
     i
 }
 
+// Whether a table of this many bytes is empty, has a node that is cut, or has too many nodes.
+fn is_length_wrong(length: usize) -> bool
+    ensures { λ r. ⌜ r ≡ lengthWrong length ⌝ }
+{
+    if length == 0 {
+        return true;
+    }
+    if length % NODE_BYTES != 0 {
+        return true;
+    }
+    length > MOST_TABLE
+}
+
 // Checks a table, for a project of `options` options.
 pub fn check(table: &[u8], options: u32) -> Answer
     ensures { λ r. ⌜ r ≡ checked (now (table .entry)) options ⌝ }
 {
-    if table.len() == 0 {
+    let length_wrong = is_length_wrong(table.len());
+    let too_many_options = options > MOST_OPTIONS;
+    if length_wrong {
         return Answer::TableLength;
     }
-    if table.len() % NODE_BYTES != 0 {
-        return Answer::TableLength;
-    }
-    if table.len() > NODE_BYTES * MOST_NODES {
-        return Answer::TableLength;
-    }
-    if options > MOST_OPTIONS {
+    if too_many_options {
         return Answer::Options;
     }
     let node = first_wrong(table, options);

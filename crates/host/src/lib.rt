@@ -1,19 +1,20 @@
 // The entries that a host calls, and nothing else. Each looks first at its answer part.
 ghost use mathlib.Core.Path.{_≡_};
-ghost use Rattle.answer.specs.Part.{called, leaves};
+ghost use Rattle.answer.specs.Part.{only, leaves};
 ghost use Rattle.formula.specs.Checks.{checked};
 ghost use Rattle.totals.specs.Measured.{measured};
 ghost use Rattle.choose.specs.Chosen.{chosenBy};
-ghost use Rattle.convert.specs.Converted.{converted};
+ghost use Rattle.convert.specs.Converted.{converted, convertedAfter};
 ghost use Rattle.dimacs.specs.Calls.{writeCall, readCall};
 use answer::give;
+use answer::is_part_wrong;
 
 // Checks a formula table for a project of `options` options.
 #[no_mangle]
 pub extern "C" fn simbolufa_check(table: &[u8], options: u32, answer: &mut [u8]) -> u32
-    ensures { λ r. ⌜ record { result = r; part = now (answer .exit) } ≡ called (now (answer .entry)) (checked (now (table .entry)) options) ⌝ }
+    ensures { λ r. ⌜ record { result = r; output = tt; part = now (answer .exit) } ≡ leaves (now (answer .entry)) tt (only (checked (now (table .entry)) options)) ⌝ }
 {
-    if answer.len() != 16 {
+    if is_part_wrong(answer) {
         return 11;
     }
     give(formula::table::check(table, options), answer)
@@ -27,9 +28,9 @@ pub extern "C" fn simbolufa_measure(
     set: &[u8],
     answer: &mut [u8],
 ) -> u32
-    ensures { λ r. ⌜ record { result = r; part = now (answer .exit) } ≡ called (now (answer .entry)) (measured (now (table .entry)) options (now (set .entry))) ⌝ }
+    ensures { λ r. ⌜ record { result = r; output = tt; part = now (answer .exit) } ≡ leaves (now (answer .entry)) tt (only (measured (now (table .entry)) options (now (set .entry)))) ⌝ }
 {
-    if answer.len() != 16 {
+    if is_part_wrong(answer) {
         return 11;
     }
     give(totals::measure::measure(table, options, set), answer)
@@ -46,7 +47,7 @@ pub extern "C" fn simbolufa_choose(
 ) -> u32
     ensures { λ r. ⌜ record { result = r; output = now (set .exit); part = now (answer .exit) } ≡ leaves (now (answer .entry)) (now (set .entry)) (chosenBy (now (table .entry)) options allowance (now (set .entry))) ⌝ }
 {
-    if answer.len() != 16 {
+    if is_part_wrong(answer) {
         return 11;
     }
     give(choose::pass::choose(table, options, allowance, set), answer)
@@ -63,10 +64,32 @@ pub extern "C" fn simbolufa_convert(
 ) -> u32
     ensures { λ r. ⌜ record { result = r; output = now (out .exit); part = now (answer .exit) } ≡ leaves (now (answer .entry)) (now (out .entry)) (converted (now (table .entry)) options (now (set .entry)) (now (out .entry))) ⌝ }
 {
-    if answer.len() != 16 {
+    if is_part_wrong(answer) {
         return 11;
     }
     give(convert::convert::convert(table, options, set, out), answer)
+}
+
+// The same for a guard that is solved together with others: `taken` is the last variable that is used already, and helpers come
+// after it.
+#[no_mangle]
+pub extern "C" fn simbolufa_convert_after(
+    table: &[u8],
+    options: u32,
+    taken: u32,
+    set: &[u8],
+    out: &mut [u8],
+    answer: &mut [u8],
+) -> u32
+    ensures { λ r. ⌜ record { result = r; output = now (out .exit); part = now (answer .exit) } ≡ leaves (now (answer .entry)) (now (out .entry)) (convertedAfter (now (table .entry)) options taken (now (set .entry)) (now (out .entry))) ⌝ }
+{
+    if is_part_wrong(answer) {
+        return 11;
+    }
+    give(
+        convert::convert::convert_after(table, options, taken, set, out),
+        answer,
+    )
 }
 
 // Writes clause bytes as DIMACS text with `variables` declared: variables and clauses are reported.
@@ -79,7 +102,7 @@ pub extern "C" fn simbolufa_write_dimacs(
 ) -> u32
     ensures { λ r. ⌜ record { result = r; output = now (text .exit); part = now (answer .exit) } ≡ leaves (now (answer .entry)) (now (text .entry)) (writeCall (now (clauses .entry)) variables (now (text .entry))) ⌝ }
 {
-    if answer.len() != 16 {
+    if is_part_wrong(answer) {
         return 11;
     }
     give(dimacs::write(clauses, variables, text), answer)
@@ -90,7 +113,7 @@ pub extern "C" fn simbolufa_write_dimacs(
 pub extern "C" fn simbolufa_read_dimacs(text: &[u8], clauses: &mut [u8], answer: &mut [u8]) -> u32
     ensures { λ r. ⌜ record { result = r; output = now (clauses .exit); part = now (answer .exit) } ≡ leaves (now (answer .entry)) (now (clauses .entry)) (readCall (now (text .entry)) (now (clauses .entry))) ⌝ }
 {
-    if answer.len() != 16 {
+    if is_part_wrong(answer) {
         return 11;
     }
     give(dimacs::read(text, clauses), answer)

@@ -5,7 +5,7 @@ use Prim.Native.Nat.{ℕ, zero, suc, _+_, _*_, _≤_, _<_, min}
 use native.Mathlib.Nat.{mul-comm, le-mul-of-pos-right, min-eq-left, mul-zero}
 use native.Mathlib.Decide.{decLe}
 use native.Mathlib.Omega.{arith}
-use Rattle.laws.specs.Caps.{cap}
+use Rattle.laws.specs.Numbers.{cap}
 
 module _ (c : ℕ) where
   pub cap-add : (a b : ℕ) → cap c (cap c a + cap c b) ≡ cap c (a + b)

@@ -7,7 +7,7 @@ use native.Mathlib.Nat.{not-suc-le-zero}
 use native.Mathlib.Omega.{arith}
 use lib.Dec.{eqb}
 use borrow.Author.Tests.{eqb-true, eqb-false}
-use Rattle.laws.specs.First.{firstFrom, first}
+use Rattle.laws.specs.Lists.{firstFrom, first}
 
 module _ (right : ℕ → Bool) where
   -- a loop that looks for it: the numbers below i pass the test

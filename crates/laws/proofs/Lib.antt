@@ -1,9 +1,11 @@
--- General laws, by subject: each file is about the definitions of its namesake in specs/.
+-- General laws, by subject.
 pub mod Arrays
 pub mod Automata
 pub mod Bytes
 pub mod Caps
-pub mod Decimals
+pub mod Choices
+pub mod Every
 pub mod First
 pub mod Splices
+pub mod Stored
 pub mod Upward

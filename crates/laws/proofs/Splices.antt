@@ -8,7 +8,7 @@ use native.Mathlib.Numerals.{add-one, add-two, add-three}
 use native.Mathlib.Omega.{arith}
 use lib.ListN.{length, set, take, drop, length-append, length-take, length-drop, drop-of-length-le}
 use lib.Seq.{sets-eq, take-at, drop-at, drop-append-add, drop-drop, length-take-le}
-use Rattle.laws.specs.Splices.{splice}
+use Rattle.laws.specs.Lists.{splice}
 
 module _ {A : Type 0} where
   pub length-splice : (l : List A) (at : ℕ) (xs : List A) → at + length xs ≤ length l → length (splice l at xs) ≡ length l

@@ -24,7 +24,7 @@ passed step live s (b ∷ t) = cond (live (step s b)) (suc (passed step live (st
 abbrev pub Begins : (List ℕ → Type 0) → List ℕ → Type 0
 Begins Accepted l = (t : List ℕ) × Accepted (l ++ t)
 
--- k is "the length of the longest beginning of it that also begins some accepted text"
+-- k is the length of the longest beginning of the text that begins some accepted text
 pub record Longest (Accepted : List ℕ → Type 0) (text : List ℕ) (k : ℕ) : Type 0 where
   pub within : k ≤ length text
   pub begins : Begins Accepted (take k text)

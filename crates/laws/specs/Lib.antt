@@ -1,9 +1,4 @@
 -- General definitions, by subject.
-pub mod Arrays
+pub mod Numbers
+pub mod Lists
 pub mod Automata
-pub mod Bytes
-pub mod Caps
-pub mod Decimals
-pub mod First
-pub mod Splices
-pub mod Upward

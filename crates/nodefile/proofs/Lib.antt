@@ -1,6 +1,5 @@
 -- Laws and theorems of the node file.
 pub mod Laws
 pub mod Cases
-pub mod Decimals
 pub mod NoChoice
 pub mod Written

@@ -1,63 +1,22 @@
--- Lines as they are written: the pieces of a text with a mark between every two are the text, and a line is right
--- exactly where it is the line of its numbers: their decimals, with a tab between every two, each within its limit.
+-- Lines as they are written: a line is right exactly where it is the line of its numbers, which is their decimals with a
+-- tab between every two, each within its limit.
 -- Assumes nothing.
 use mathlib.Core.Path.{_≡_, refl, sym, ap, _∙_, subst}
-use mathlib.Core.Bool.{Bool, true, false, not, _&&_}
+use mathlib.Core.Bool.{true}
 use mathlib.Core.List.{List, [], _∷_, _++_}
 use Prim.Native.Nat.{ℕ, suc, _≤_}
 use native.Mathlib.Omega.{arith}
-use lib.Dec.{eqb, leb}
-use lib.ListN.{length, getD, drop}
-use borrow.Author.Tests.{eq-eqb, ne-eqb, eqb-true, leb-true, not-true}
-use Rattle.laws.specs.Decimals.{decimal}
-use Rattle.nodefile.specs.Limits.{mostNumber, tab, optionsWord}
-use Rattle.nodefile.specs.Pieces.{ahead, parted}
-use Rattle.nodefile.specs.Numbers.{isDigit, allDigits, valueOf, isNumber}
-use Rattle.nodefile.specs.Lines.{fieldsOf, fieldValue, areNumbers, same, optionFields, optionLine, optionCount}
-use Rattle.nodefile.specs.Lines.{nodeLimits, nodeLine, nodeRecord, recordOf}
-use Rattle.nodefile.proofs.Laws.Pieces.{parted-some}
-use Rattle.nodefile.proofs.Laws.Choices.{both}
-use Rattle.nodefile.proofs.Decimals.{number-whole, decimal-whole, decimal-digits, value-decimal}
-
--- pieces with a mark between every two
-abbrev pub joined : ℕ → List (List ℕ) → List ℕ
-joined mark [] = []
-joined mark (p ∷ []) = p
-joined mark (p ∷ q ∷ ps) = p ++ (mark ∷ joined mark (q ∷ ps))
-
-module _ (mark : ℕ) where
-  -- no byte is the mark
-  unfoldable pub free : List ℕ → Bool
-  free [] = true
-  free (b ∷ t) = not (eqb b mark) && free t
-
-  -- the pieces of a text, joined, are the text
-  pub joined-parted : (t : List ℕ) → joined mark (parted mark t) ≡ t
-  unfolding parted
-  joined-parted [] = refl
-  joined-parted (b ∷ t) = go (eqb b mark) refl (parted mark t) (joined-parted t) (parted-some mark t)
-    where
-      go : (c : Bool) → eqb b mark ≡ c → (ps : List (List ℕ)) → joined mark ps ≡ t → ps ≡ getD ps 0 [] ∷ drop 1 ps
-          → joined mark (ahead c b ps) ≡ b ∷ t
-      go c e [] f s = absurd (omega (arith, ap length s))
-      go true e (p ∷ ps) f s = λ i. sym (eqb-true b mark e) i ∷ f i
-      go false e (p ∷ []) f s = ap (_∷_ b) f
-      go false e (p ∷ q ∷ ps) f s = ap (_∷_ b) f
-
-  -- a piece without a mark, alone and in front of a mark
-  parted-whole : (p : List ℕ) → free p ≡ true → parted mark p ≡ p ∷ []
-  unfolding parted free
-  parted-whole [] h = refl
-  parted-whole (b ∷ p) h =
-      let c = both (not (eqb b mark)) (free p) h in
-      rw (not-true (eqb b mark) (c .0), parted-whole p (c .1))
-
-  parted-piece : (p t : List ℕ) → free p ≡ true → parted mark (p ++ (mark ∷ t)) ≡ p ∷ parted mark t
-  unfolding parted free
-  parted-piece [] t h = rw (eq-eqb mark mark refl)
-  parted-piece (b ∷ p) t h =
-      let c = both (not (eqb b mark)) (free p) h in
-      rw (not-true (eqb b mark) (c .0), parted-piece p t (c .1))
+use lib.Dec.{eqb}
+use lib.ListN.{length, getD}
+use borrow.Author.Tests.{eq-eqb, eqb-true}
+use Rattle.laws.proofs.Choices.{both}
+use Rattle.text.specs.Decimals.{decimal, valueOf, same, isNumber}
+use Rattle.text.proofs.Laws.Fields.{same-whole, number-whole, decimal-whole, value-decimal}
+use Rattle.text.proofs.Laws.Pieces.{joined, free, joined-parted, parted-whole, parted-piece, decimal-free}
+use Rattle.formula.specs.Nodes.{nodeRecord}
+use Rattle.nodefile.specs.Lines.{tab, mostNumber, fieldsOf, fieldValue, areNumbers, optionsWord, optionFields, optionLine}
+use Rattle.nodefile.specs.Lines.{optionCount}
+use Rattle.nodefile.specs.Lines.{nodeLimits, nodeLine, recordOf}
 
 -- numbers in decimal, and the values of fields
 abbrev pub decimals : List ℕ → List (List ℕ)
@@ -98,18 +57,10 @@ numbers-written limits line h =
     (sym (joined-parted tab line) ∙ ap (joined tab) (w .0), w .1)
 
 -- .. and their line is right
-digits-free : (t : List ℕ) → allDigits t ≡ true → free tab t ≡ true
-unfolding allDigits free
-digits-free [] h = refl
-digits-free (b ∷ t) h =
-    let c = both (isDigit b) (allDigits t) h in
-    let l = leb-true 48 b (both (leb 48 b) (leb b 57) (c .0) .0) in
-    rw (ne-eqb b tab (λ e. omega arith), digits-free t (c .1))
-
 fields-written : (x : ℕ) (xs : List ℕ) → fieldsOf (lineText (x ∷ xs)) ≡ decimals (x ∷ xs)
-fields-written x [] = parted-whole tab (decimal x) (digits-free (decimal x) (decimal-digits x))
+fields-written x [] = parted-whole tab (decimal x) (decimal-free tab refl x)
 fields-written x (y ∷ ys) =
-    parted-piece tab (decimal x) (lineText (y ∷ ys)) (digits-free (decimal x) (decimal-digits x))
+    parted-piece tab (decimal x) (lineText (y ∷ ys)) (decimal-free tab refl x)
     ∙ ap (_∷_ (decimal x)) (fields-written y ys)
 
 decimals-right : {limits xs : List ℕ} → Within limits xs → areNumbers limits (decimals xs) ≡ true
@@ -126,7 +77,7 @@ within-length : {limits xs : List ℕ} → Within limits xs → length limits �
 within-length none = refl
 within-length (more h w) = ap suc (within-length w)
 
--- "for each node, its number, kind, a, b": the line of node i says no more and no less
+-- R13.3: the line of node i says no more and no less
 pub node-written : (i : ℕ) (line : List ℕ) → nodeLine i line ≡ true
     → let k = fieldValue line 1 in let a = fieldValue line 2 in let b = fieldValue line 3 in
     (line ≡ lineText (i ∷ k ∷ a ∷ b ∷ [])) × Within nodeLimits (i ∷ k ∷ a ∷ b ∷ [])
@@ -159,18 +110,7 @@ written-node i k a b w =
           ∙ (λ j. nodeRecord (value-decimal k j) (value-decimal a j) (value-decimal b j)),
     )
 
--- "First `options` and V"
-same-whole : (xs ys : List ℕ) → same xs ys ≡ true → xs ≡ ys
-unfolding same
-same-whole [] [] h = refl
-same-whole [] (y ∷ ys) h = let z : _≡_ {A = ℕ} 0 1 = cc in absurd (omega arith)
-same-whole (x ∷ xs) [] h = let z : _≡_ {A = ℕ} 0 1 = cc in absurd (omega arith)
-same-whole (x ∷ xs) (y ∷ ys) h =
-    let c = both (eqb x y) (same xs ys) h in
-    let p = eqb-true x y (c .0) in
-    let q = same-whole xs ys (c .1) in
-    λ i. p i ∷ q i
-
+-- R13.2: the option line
 abbrev pub optionText : ℕ → List ℕ
 optionText v = optionsWord ++ (tab ∷ decimal v)
 
@@ -201,7 +141,7 @@ unfolding free same areNumbers
 written-options v h =
     let f : fieldsOf (optionText v) ≡ optionsWord ∷ decimal v ∷ [] =
     parted-piece tab optionsWord (decimal v) refl
-    ∙ ap (_∷_ optionsWord) (parted-whole tab (decimal v) (digits-free (decimal v) (decimal-digits v))) in (
+    ∙ ap (_∷_ optionsWord) (parted-whole tab (decimal v) (decimal-free tab refl v)) in (
       ap optionFields f ∙ rw (decimal-whole mostNumber v h),
       ap (λ (fs : List (List ℕ)). valueOf (getD fs 1 [])) f ∙ value-decimal v,
     )

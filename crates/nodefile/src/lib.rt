@@ -1,19 +1,17 @@
 // The node file: lines of text that give the option count and the nodes of a formula table.
-mod field;
 mod line;
-mod table;
 
 ghost use mathlib.Core.Path.{_≡_};
 ghost use Rattle.nodefile.specs.Files.{fileRead};
 use answer::Answer;
-use formula::node::MOST_NODES;
+use formula::node::MOST_TABLE;
 use formula::node::NODE_BYTES;
+use formula::node::put_node;
 use line::NodeAt;
 use line::OptionsAt;
+use text::write::put_bytes;
 
 const MOST_BYTES: usize = 65_536;
-
-const MOST_TABLE: usize = NODE_BYTES * MOST_NODES;
 
 // Reads a node file as the bytes of a table; reports the option count and the nodes.
 // The records are collected first: a wrong line behind them leaves the lent buffer as it was.
@@ -43,7 +41,7 @@ pub fn read(text: &[u8], table: &mut [u8]) -> Answer
         else {
             return Answer::Line { line: nodes + 2 };
         };
-        table::put_node(&mut bytes, NODE_BYTES * (nodes as usize), kind, a, b);
+        put_node(&mut bytes, NODE_BYTES * (nodes as usize), kind, a, b);
         nodes += 1;
         at = behind;
     }
@@ -51,7 +49,7 @@ pub fn read(text: &[u8], table: &mut [u8]) -> Answer
     if table.len() < size {
         return Answer::Room;
     }
-    table::copy(&bytes[..size], table);
+    put_bytes(table, 0, &bytes[..size]);
     Answer::Accepted {
         first: options,
         second: nodes,

@@ -2,14 +2,15 @@
 ghost use mathlib.Core.Path.{_≡_};
 ghost use Prim.Native.Nat.{_≤_};
 ghost use lib.ListN.{length};
-ghost use Rattle.nodefile.specs.Steps.{optionsOf, nodeOf, OptionsFound, NodeFound};
-use crate::field::Field;
-use crate::field::Number;
-use crate::field::TAB;
-use crate::field::find;
-use crate::field::is_same;
-use crate::field::number_at;
+ghost use Rattle.nodefile.specs.Inner.Steps.{optionsOf, nodeOf, OptionsFound, NodeFound};
 use formula::node::MOST_NODES;
+use text::number::Number;
+use text::piece::Field;
+use text::piece::find;
+use text::piece::is_same;
+use text::piece::number_at;
+
+const TAB: u8 = 9;
 
 const NEWLINE: u8 = 10;
 
@@ -20,7 +21,7 @@ const MOST_NUMBER: u32 = 65_535;
 pub enum Node {
     // The line is no node line, or that of another node.
     Wrong,
-    Is { kind: u8, a: u32, b: u32 },
+    Is { kind: u8, a: usize, b: usize },
 }
 
 pub enum OptionsAt {
@@ -36,8 +37,8 @@ pub enum NodeAt {
     // The node, and where the next line begins.
     Right {
         kind: u8,
-        a: u32,
-        b: u32,
+        a: usize,
+        b: usize,
         next: usize,
     },
 }
@@ -50,7 +51,7 @@ fn options_of(line: &[u8]) -> Number
     if !is_same(&line[..end], b"options") {
         return Number::Wrong;
     }
-    match number_at(line, end + 1, MOST_NUMBER) {
+    match number_at(line, end + 1, TAB, MOST_NUMBER) {
         Field::Wrong => Number::Wrong,
         Field::Is { value, next } => {
             if next <= line.len() {
@@ -68,28 +69,28 @@ fn node_of(line: &[u8], node: u32) -> Node
     let Field::Is {
         value: number,
         next: second,
-    } = number_at(line, 0, MOST_NUMBER)
+    } = number_at(line, 0, TAB, MOST_NUMBER)
     else {
         return Node::Wrong;
     };
     let Field::Is {
         value: kind,
         next: third,
-    } = number_at(line, second, MOST_KIND)
+    } = number_at(line, second, TAB, MOST_KIND)
     else {
         return Node::Wrong;
     };
     let Field::Is {
         value: a,
         next: fourth,
-    } = number_at(line, third, MOST_NUMBER)
+    } = number_at(line, third, TAB, MOST_NUMBER)
     else {
         return Node::Wrong;
     };
     let Field::Is {
         value: b,
         next: fifth,
-    } = number_at(line, fourth, MOST_NUMBER)
+    } = number_at(line, fourth, TAB, MOST_NUMBER)
     else {
         return Node::Wrong;
     };
@@ -101,8 +102,8 @@ fn node_of(line: &[u8], node: u32) -> Node
     }
     Node::Is {
         kind: kind as u8,
-        a,
-        b,
+        a: a as usize,
+        b: b as usize,
     }
 }
 

@@ -1,5 +1,6 @@
 -- Laws of the totals, by subject.
+pub mod Grids
 pub mod Columns
-pub mod Measured
+pub mod Small
 pub mod Stated
-pub mod Whole
+pub mod Sums

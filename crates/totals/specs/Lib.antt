@@ -1,5 +1,3 @@
--- What the contracts of the totals cite.
-pub mod Sized
-pub mod Columns
-pub mod Whole
+-- What measuring answers, and what the inner contracts cite.
 pub mod Measured
+pub mod Inner

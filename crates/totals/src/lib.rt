@@ -2,4 +2,5 @@
 pub mod measure;
 pub mod rows;
 pub mod total;
+pub mod trial;
 pub mod whole;

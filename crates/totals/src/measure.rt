@@ -1,51 +1,47 @@
 // Measuring: the totals of a formula under a set, so that a host can size its buffer.
 ghost use mathlib.Core.Path.{_≡_};
 ghost use lib.ListN.{length};
-ghost use Rattle.formula.specs.Checks.{RightLength};
-ghost use Rattle.formula.specs.Marks.{marksOf, held};
+ghost use Rattle.formula.specs.Inner.Held.{Marked};
+ghost use Rattle.formula.specs.Inner.Right.{RightLength};
 ghost use Rattle.formula.specs.Nodes.{nodesOf};
+ghost use Rattle.clausal.specs.Renamings.{renaming};
 ghost use Rattle.clausal.specs.Totals.{totals};
+ghost use Rattle.totals.specs.Inner.Sized.{asTotal};
 ghost use Rattle.totals.specs.Measured.{measured, measuredUnder};
-ghost use Rattle.totals.specs.Sized.{sized};
-use crate::rows::node_totals;
+use crate::rows::fill;
 use crate::total::Total;
 use crate::whole::whole;
 use answer::Answer;
 use answer::is_refusal;
-use formula::mark::marks;
+use formula::mark::mark_all;
+use formula::node::MOST_NODES;
 
 // The totals of a table under a set; `marks` are the marks of its nodes.
-fn totals_under(table: &[u8], marks: &[u8], set: &[u8]) -> Total
-    requires { ⌜ RightLength (length (now table)) ⌝ }
-    requires { ⌜ now marks ≡ held (marksOf (nodesOf (now table))) ⌝ }
-    ensures { λ r. ⌜ sized r ≡ totals 0 (now (set .entry)) (nodesOf (now (table .entry))) ⌝ }
+fn totals_under(table: &[u8], marks: &[u8; 1024], set: &[u8]) -> Total
+    requires { ⌜ Marked (now table) (now marks) ⌝ }
+    ensures { λ r. ⌜ r ≡ asTotal (totals (renaming 0 (now (set .entry))) (nodesOf (now (table .entry)))) ⌝ }
 {
-    let all = node_totals(table, set);
-    whole(
-        table,
-        marks,
-        set,
-        &all.p_clauses,
-        &all.p_literals,
-        &all.n_clauses,
-        &all.n_literals,
-    )
+    let mut clauses = [[0u16; MOST_NODES]; 2];
+    let mut literals = [[0u32; MOST_NODES]; 2];
+    fill(table, set, 0, &mut clauses, &mut literals);
+    whole(table, marks, set, 0, &clauses, &literals)
 }
 
 // Checks a set for a table that is right, and gives the totals.
 fn measure_under(table: &[u8], set: &[u8]) -> Answer
     requires { ⌜ RightLength (length (now table)) ⌝ }
-    ensures { λ r. ⌜ r ≡ measuredUnder 0 (nodesOf (now (table .entry))) (now (set .entry)) ⌝ }
+    ensures { λ r. ⌜ r ≡ measuredUnder (renaming 0 (now (set .entry))) (nodesOf (now (table .entry))) ⌝ }
 {
-    let marks = marks(table);
+    let mut marks = [0u8; MOST_NODES];
+    mark_all(table, &mut marks);
     let right = formula::set::check(table, &marks, set);
     if is_refusal(right) {
         return right;
     }
     let sum = totals_under(table, &marks, set);
     Answer::Accepted {
-        first: sum.clauses,
-        second: sum.literals,
+        first: sum.clauses.n as u32,
+        second: sum.literals.n,
     }
 }
 

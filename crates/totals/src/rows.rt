@@ -1,19 +1,20 @@
-// The four totals of every node: clauses and literals, for each sign.
+// The totals of every node under a set: clauses and literals, for each sign.
 ghost use mathlib.Core.Path.{_≡_};
-ghost use Prim.Native.Nat.{_*_, _≤_, _<_};
-ghost use lib.ListN.{length, getD};
-ghost use Rattle.formula.specs.Limits.{nodeBytes, mostNodes};
-ghost use Rattle.formula.specs.Nodes.{nodeAt, nodesOf};
+ghost use Prim.Native.Nat.{_<_, _≤_};
+ghost use Rattle.formula.specs.Limits.{mostNodes};
+ghost use Rattle.formula.specs.Nodes.{nodeAt, nodeCount, nodesOf};
 ghost use Rattle.clausal.specs.Algebra.{rowBy};
-ghost use Rattle.clausal.specs.Helpers.{renamed};
 ghost use Rattle.clausal.specs.Totals.{capped};
-ghost use Rattle.totals.specs.Columns.{rowed, rowIn, childIn, rowNext, columnsOf, rowTotals};
+ghost use Rattle.totals.specs.Inner.Columns.{rowIn, childIn, rowNext, Ready, Fillable};
+ghost use Rattle.totals.specs.Inner.Sized.{rowed, asRow};
+use crate::total::ClauseTotal;
+use crate::total::LiteralTotal;
 use crate::total::Total;
 use formula::node::Kind;
-use formula::node::MOST_NODES;
 use formula::node::NODE_BYTES;
 use formula::node::Node;
 use formula::node::node_at;
+use formula::set::is_renamed;
 
 // The totals of P and of N of a node.
 pub struct Row {
@@ -21,17 +22,9 @@ pub struct Row {
     pub n: Total,
 }
 
-// The four totals of every node, one array for each.
-pub struct Totals {
-    pub p_clauses: [u32; 1024],
-    pub p_literals: [u32; 1024],
-    pub n_clauses: [u32; 1024],
-    pub n_literals: [u32; 1024],
-}
-
 // The rule of a node: `x` and `y` are its children's rows.
 fn row_by(node: Node, x: Row, y: Row) -> Row
-    ensures { λ r. ⌜ rowed r ≡ rowBy capped (node .kind) (node .a) (rowed x) (rowed y) ⌝ }
+    ensures { λ r. ⌜ r ≡ asRow (rowBy capped (node .kind) (node .a) (rowed x) (rowed y)) ⌝ }
 {
     let kind = node.kind;
     let xp = x.p;
@@ -75,108 +68,85 @@ fn row_by(node: Node, x: Row, y: Row) -> Row
     }
 }
 
-// The entry of a node, 0 past the end.
-pub fn entry(column: &[u32], i: usize) -> u32
-    ensures { λ r. ⌜ r ≡ getD (now (column .entry)) i 0 ⌝ }
-{
-    if i < column.len() { column[i] } else { 0 }
-}
-
 // The row of node `i`.
-pub fn row_at<'a>(
-    p_clauses: &'a [u32],
-    p_literals: &'a [u32],
-    n_clauses: &'a [u32],
-    n_literals: &'a [u32],
-    i: usize,
-) -> Row
-    ensures { λ r. ⌜ rowed r ≡ rowIn (now («p_clauses» .entry)) (now («p_literals» .entry)) (now («n_clauses» .entry)) (now («n_literals» .entry)) i ⌝ }
+pub fn row_at(clauses: &[[u16; 1024]; 2], literals: &[[u32; 1024]; 2], i: usize) -> Row
+    requires { ⌜ i < mostNodes ⌝ }
+    ensures { λ r. ⌜ r ≡ asRow (rowIn (now (clauses .entry)) (now (literals .entry)) i) ⌝ }
 {
     let p = Total {
-        clauses: entry(p_clauses, i),
-        literals: entry(p_literals, i),
+        clauses: ClauseTotal { n: clauses[0][i] },
+        literals: LiteralTotal { n: literals[0][i] },
     };
     let n = Total {
-        clauses: entry(n_clauses, i),
-        literals: entry(n_literals, i),
+        clauses: ClauseTotal { n: clauses[1][i] },
+        literals: LiteralTotal { n: literals[1][i] },
     };
     Row { p, n }
 }
 
-// Whether node `i` is renamed.
-pub fn is_renamed(set: &[u8], i: usize) -> bool
-    ensures { λ r. ⌜ r ≡ renamed (now (set .entry)) i ⌝ }
-{
-    if i < set.len() { set[i] == 1 } else { false }
-}
-
-// Node `i` as a child: a renamed node is seen as its helper.
-fn child<'a>(
+// The node `at` as a child of node `i`: a renamed node is seen as its helper.
+fn child(
     set: &[u8],
-    p_clauses: &'a [u32],
-    p_literals: &'a [u32],
-    n_clauses: &'a [u32],
-    n_literals: &'a [u32],
+    clauses: &[[u16; 1024]; 2],
+    literals: &[[u32; 1024]; 2],
     i: usize,
+    at: usize,
 ) -> Row
-    ensures { λ r. ⌜ rowed r ≡ childIn (now (set .entry)) (now («p_clauses» .entry)) (now («p_literals» .entry)) (now («n_clauses» .entry)) (now («n_literals» .entry)) i ⌝ }
+    requires { ⌜ i < mostNodes ⌝ }
+    ensures { λ r. ⌜ r ≡ asRow (childIn (now (set .entry)) (now (clauses .entry)) (now (literals .entry)) i at) ⌝ }
 {
-    if is_renamed(set, i) {
+    if is_renamed(set, at) {
         return Row {
             p: Total::unit(),
             n: Total::unit(),
         };
     }
-    row_at(p_clauses, p_literals, n_clauses, n_literals, i)
+    if at < i {
+        return row_at(clauses, literals, at);
+    }
+    Row {
+        p: Total::none(),
+        n: Total::none(),
+    }
 }
 
 // The row of node `i`, from the rows before it.
-fn row_next<'a>(
+fn row_next(
     table: &[u8],
     set: &[u8],
-    p_clauses: &'a [u32],
-    p_literals: &'a [u32],
-    n_clauses: &'a [u32],
-    n_literals: &'a [u32],
+    clauses: &[[u16; 1024]; 2],
+    literals: &[[u32; 1024]; 2],
     i: usize,
 ) -> Row
+    requires { ⌜ i < nodeCount (now table) ⌝ }
     requires { ⌜ i < mostNodes ⌝ }
-    ensures { λ r. ⌜ rowed r ≡ rowNext (nodeAt (now (table .entry)) i) (now (set .entry)) (now («p_clauses» .entry)) (now («p_literals» .entry)) (now («n_clauses» .entry)) (now («n_literals» .entry)) ⌝ }
+    ensures { λ r. ⌜ r ≡ asRow (rowNext (nodeAt (now (table .entry)) i) (now (set .entry)) (now (clauses .entry)) (now (literals .entry)) i) ⌝ }
 {
     let node = node_at(table, i);
-    let x = child(set, p_clauses, p_literals, n_clauses, n_literals, node.a);
-    let y = child(set, p_clauses, p_literals, n_clauses, n_literals, node.b);
+    let x = child(set, clauses, literals, i, node.a);
+    let y = child(set, clauses, literals, i, node.b);
     row_by(node, x, y)
 }
 
-// The four totals of every node of a table, under a set.
-pub fn node_totals(table: &[u8], set: &[u8]) -> Totals
-    requires { ⌜ length (now table) ≤ nodeBytes * mostNodes ⌝ }
-    ensures { λ r. ⌜ r ≡ columnsOf (rowTotals (now (set .entry)) (nodesOf (now (table .entry)))) ⌝ }
+// Fills in the rows of the nodes from `from` on, under a set; those below stand.
+pub fn fill(
+    table: &[u8],
+    set: &[u8],
+    from: usize,
+    clauses: &mut [[u16; 1024]; 2],
+    literals: &mut [[u32; 1024]; 2],
+)
+    requires { ⌜ Fillable (now table) (now set) from (now clauses) (now literals) ⌝ }
+    ensures { λ _. ⌜ Ready (now (set .entry)) (nodesOf (now (table .entry))) (nodeCount (now (table .entry))) (now (clauses .exit)) (now (literals .exit)) ⌝ }
 {
-    let mut all = Totals {
-        p_clauses: [0u32; MOST_NODES],
-        p_literals: [0u32; MOST_NODES],
-        n_clauses: [0u32; MOST_NODES],
-        n_literals: [0u32; MOST_NODES],
-    };
     let count = table.len() / NODE_BYTES;
-    let mut i = 0;
+    let mut i = from;
     while i < count {
-        let row = row_next(
-            table,
-            set,
-            &all.p_clauses,
-            &all.p_literals,
-            &all.n_clauses,
-            &all.n_literals,
-            i,
-        );
-        all.p_clauses[i] = row.p.clauses;
-        all.p_literals[i] = row.p.literals;
-        all.n_clauses[i] = row.n.clauses;
-        all.n_literals[i] = row.n.literals;
+        let row = row_next(table, set, clauses, literals, i);
+        clauses[0][i] = row.p.clauses.n;
+        clauses[1][i] = row.n.clauses.n;
+        literals[0][i] = row.p.literals.n;
+        literals[1][i] = row.n.literals.n;
         i += 1;
     }
-    all
 }

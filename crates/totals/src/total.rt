@@ -1,9 +1,9 @@
 // The totals of one list: how many clauses and how many literals, each read at its ceiling.
 ghost use mathlib.Core.Path.{_≡_};
 ghost use Prim.Native.Nat.{_+_, _*_};
-ghost use Rattle.laws.specs.Caps.{cap};
+ghost use Rattle.laws.specs.Numbers.{cap};
 ghost use Rattle.clausal.specs.Totals.{clauseCeiling, literalCeiling, capped};
-ghost use Rattle.totals.specs.Sized.{statedAs, sized};
+ghost use Rattle.totals.specs.Inner.Sized.{sized, asTotal, statedAs};
 
 // The whole product of two numbers.
 fn product(a: u32, b: u32) -> u64
@@ -17,19 +17,18 @@ fn capped_at(ceiling: u32, number: u64) -> u32
     ensures { λ r. ⌜ r ≡ cap ceiling number ⌝ }
 {
     if number < ceiling as u64 {
-        number as u32
-    } else {
-        ceiling
+        return number as u32;
     }
+    ceiling
 }
 
 // A clause total.
 pub struct ClauseTotal {
-    pub n: u32,
+    pub n: u16,
 }
 
 impl ClauseTotal {
-    pub const CEILING: u32 = 65_535;
+    pub const CEILING: u16 = 65_535;
 
     pub fn zero() -> Self
         ensures { λ r. ⌜ r .n ≡ 0 ⌝ }
@@ -37,22 +36,27 @@ impl ClauseTotal {
         Self { n: 0 }
     }
 
+    fn one() -> Self
+        ensures { λ r. ⌜ r .n ≡ 1 ⌝ }
+    {
+        Self { n: 1 }
+    }
+
     // One list followed by another.
     pub fn add(self, other: Self) -> Self
         ensures { λ r. ⌜ r .n ≡ cap clauseCeiling (self .n + other .n) ⌝ }
     {
-        Self {
-            n: capped_at(Self::CEILING, self.n as u64 + other.n as u64),
-        }
+        let sum = capped_at(Self::CEILING as u32, self.n as u64 + other.n as u64);
+        Self { n: sum as u16 }
     }
 
     // The join of two lists.
     pub fn join(self, other: Self) -> Self
         ensures { λ r. ⌜ r .n ≡ cap clauseCeiling (self .n * other .n) ⌝ }
     {
-        Self {
-            n: capped_at(Self::CEILING, product(self.n, other.n)),
-        }
+        let joined = product(self.n as u32, other.n as u32);
+        let sum = capped_at(Self::CEILING as u32, joined);
+        Self { n: sum as u16 }
     }
 }
 
@@ -70,6 +74,12 @@ impl LiteralTotal {
         Self { n: 0 }
     }
 
+    fn one() -> Self
+        ensures { λ r. ⌜ r .n ≡ 1 ⌝ }
+    {
+        Self { n: 1 }
+    }
+
     // One list followed by another.
     pub fn add(self, other: Self) -> Self
         ensures { λ r. ⌜ r .n ≡ cap literalCeiling (self .n + other .n) ⌝ }
@@ -80,11 +90,11 @@ impl LiteralTotal {
     }
 
     // These literals, repeated for each of a number of clauses.
-    pub fn times(self, clauses: ClauseTotal) -> Self
+    fn times(self, clauses: ClauseTotal) -> Self
         ensures { λ r. ⌜ r .n ≡ cap literalCeiling (self .n * clauses .n) ⌝ }
     {
         Self {
-            n: capped_at(Self::CEILING, product(self.n, clauses.n)),
+            n: capped_at(Self::CEILING, product(self.n, clauses.n as u32)),
         }
     }
 
@@ -98,8 +108,8 @@ impl LiteralTotal {
 
 // Both totals of a list.
 pub struct Total {
-    pub clauses: u32,
-    pub literals: u32,
+    pub clauses: ClauseTotal,
+    pub literals: LiteralTotal,
 }
 
 // A literal total is stated only where its clause total is below the ceiling.
@@ -107,68 +117,63 @@ fn stated(clauses: ClauseTotal, literals: LiteralTotal) -> Total
     ensures { λ r. ⌜ r ≡ statedAs (clauses .n) (literals .n) ⌝ }
 {
     if clauses.n < ClauseTotal::CEILING {
-        return Total {
-            clauses: clauses.n,
-            literals: literals.n,
-        };
+        return Total { clauses, literals };
     }
     Total {
-        clauses: clauses.n,
-        literals: LiteralTotal::CEILING,
+        clauses,
+        literals: LiteralTotal {
+            n: LiteralTotal::CEILING,
+        },
     }
 }
 
 impl Total {
     // No clause.
     pub fn none() -> Self
-        ensures { λ r. ⌜ r ≡ record { clauses = 0; literals = 0 } ⌝ }
+        ensures { λ r. ⌜ r ≡ asTotal (capped .none) ⌝ }
     {
         Self {
-            clauses: 0,
-            literals: 0,
+            clauses: ClauseTotal::zero(),
+            literals: LiteralTotal::zero(),
         }
     }
 
     // One empty clause.
     pub fn empty() -> Self
-        ensures { λ r. ⌜ r ≡ record { clauses = 1; literals = 0 } ⌝ }
+        ensures { λ r. ⌜ r ≡ asTotal (capped .empty) ⌝ }
     {
         Self {
-            clauses: 1,
-            literals: 0,
+            clauses: ClauseTotal::one(),
+            literals: LiteralTotal::zero(),
         }
     }
 
     // One clause of one literal.
     pub fn unit() -> Self
-        ensures { λ r. ⌜ r ≡ record { clauses = 1; literals = 1 } ⌝ }
+        ensures { λ r. ⌜ r ≡ record { clauses = record { n = 1 }; literals = record { n = 1 } } ⌝ }
     {
         Self {
-            clauses: 1,
-            literals: 1,
+            clauses: ClauseTotal::one(),
+            literals: LiteralTotal::one(),
         }
     }
 
     // One list followed by another.
     pub fn cat(self, other: Self) -> Self
-        ensures { λ r. ⌜ sized r ≡ capped .cat (sized self) (sized other) ⌝ }
+        ensures { λ r. ⌜ r ≡ asTotal (capped .cat (sized self) (sized other)) ⌝ }
     {
-        let clauses = ClauseTotal { n: self.clauses }.add(ClauseTotal { n: other.clauses });
-        let literals = LiteralTotal { n: self.literals }.add(LiteralTotal { n: other.literals });
+        let clauses = self.clauses.add(other.clauses);
+        let literals = self.literals.add(other.literals);
         stated(clauses, literals)
     }
 
     // The join of two lists.
     pub fn join(self, other: Self) -> Self
-        ensures { λ r. ⌜ sized r ≡ capped .join (sized self) (sized other) ⌝ }
+        ensures { λ r. ⌜ r ≡ asTotal (capped .join (sized self) (sized other)) ⌝ }
     {
-        let own = ClauseTotal { n: self.clauses };
-        let others = ClauseTotal { n: other.clauses };
-        let literals = LiteralTotal { n: self.literals }.join(
-            own,
-            LiteralTotal { n: other.literals },
-            others,
-        );
+        let own = self.clauses;
+        let others = other.clauses;
+        let literals = self.literals.join(own, other.literals, others);
         stated(own.join(others), literals)
     }
 }

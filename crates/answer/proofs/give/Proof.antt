@@ -1,11 +1,9 @@
 -- `answer::give` meets its contract: the four numbers stand one behind the other. Assumes nothing.
 use mathlib.Core.Path.{_≡_, refl, sym, ap, _∙_}
-use mathlib.Core.List.{List}
-use Prim.Native.Nat.{ℕ}
 use borrow.Author.Needs.{needs}
-use Rattle.laws.specs.Bytes.{little}
+use Rattle.laws.specs.Numbers.{little}
 use Rattle.answer.specs.declared.Told.{Told}
-use Rattle.answer.specs.Part.{bytesOf, Given}
+use Rattle.answer.specs.Part.{bytesOf}
 use Rattle.answer.proofs.Laws.Part.{four-runs}
 use Rattle.answer.proofs.give.Statement.{statement}
 use Rattle.answer.proofs.give.Tie as tie
@@ -23,9 +21,10 @@ returns c =
     let place = p₂ .before .shown .result in
     let written = four-runs (start .args .part .now) _ _ _ _ (little 4 (t .number)) (little 4 place) (little 4 (t .first)) (little 4 (t .second))
     refl refl refl refl (start .pre) (p₁ .put .ensures) (p₂ .put2 .ensures) (p₃ .put3 .ensures) (p₄ .put4 .ensures) in
-    let same : p₄ .put4 .last .0 ≡ bytesOf t = written ∙ rw (p₂ .before .shown .ensures) in
-    (λ i. record { result = t .number; part = same i })
-    ∙ ap (λ (t : Told). record { result = t .number; part = bytesOf t }) (told .tell .ensures)
+    record {
+      number = ap (λ (t : Told). t .number) (told .tell .ensures);
+      bytes = written ∙ rw (p₂ .before .shown .ensures) (ap bytesOf (told .tell .ensures));
+    }
 
 pub give-spec : {M : Type 1} → statement M
 give-spec =

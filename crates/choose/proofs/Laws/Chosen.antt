@@ -1,7 +1,7 @@
 -- The chosen set: it has as many nodes as are reported, no more than the allowance, and it is right for converting.
 -- Assumes nothing.
 use mathlib.Core.Path.{_≡_, refl, sym, ap, _∙_}
-use mathlib.Core.Bool.{Bool, true, false, cond, _&&_, _||_, false≢true}
+use mathlib.Core.Bool.{Bool, true, false, cond, _&&_, _||_}
 use mathlib.Core.List.{List}
 use Prim.Native.Nat.{ℕ, zero, suc, _+_, _≤_, _<_}
 use native.Mathlib.Decide.{decLt}
@@ -11,13 +11,14 @@ use lib.ListN.{length, set, replicate, length-set, length-replicate, getD-replic
 use lib.Seq.{getD-set-same, getD-set-other}
 use borrow.Author.Tests.{eqb-true, eqb-false, ltb-true, eq-eqb, le-ltb}
 use Rattle.answer.specs.declared.Answer.the-variants.{Accepted}
+use Rattle.laws.proofs.Choices.{both}
 use Rattle.laws.proofs.First.{first-fails}
-use Rattle.formula.specs.Sets.{mayRename, byteRight, firstWrongByte, setChecked}
+use Rattle.formula.specs.Sets.{renamed, mayRename, byteRight, firstWrongByte, setChecked}
 use Rattle.formula.specs.declared.node.Node.{Node}
 use Rattle.formula.proofs.Laws.Sets.{RightSet}
 use Rattle.clausal.specs.Choosing.{Choice, totalUnder, goesIn, visit, visitsFrom, nothing, choose}
-use Rattle.clausal.specs.Helpers.{renamed, renamedBelow}
-use Rattle.choose.proofs.Laws.Renamed.{below-none, renamed-set-other, below-set}
+use Rattle.clausal.specs.Renamings.{Renaming, renamedBelow}
+use Rattle.clausal.proofs.Renamed.{below-none, renamed-set-other, below-set}
 
 -- whether b is right as the byte of node i
 abbrev rightByte : List Node → ℕ → ℕ → Bool
@@ -54,30 +55,26 @@ set-checked ns s r = go (decLt (firstWrongByte ns s) (length ns))
         absurd (omega arith)
     go (no h) = rw (eq-eqb (length s) (length ns) (r .size), le-ltb (firstWrongByte ns s) (length ns) (omega arith))
 
-both-true : (x y : Bool) → (x && y) ≡ true → (x ≡ true) × (y ≡ true)
-both-true true y e = (refl, e)
-both-true false y e = absurd (false≢true e)
-
-module _ (allowance v : ℕ) (ns : List Node) where
+module _ (allowance : ℕ) (u : Renaming) (ns : List Node) where
   -- why a node goes in
   pub record Goes (k : ℕ) (c : Choice) : Type 0 where
     pub fewer : c .picks < allowance
     pub may : mayRename ns k ≡ true
-    pub lower : totalUnder v ns (set (c .chosen) k 1) < totalUnder v ns (c .chosen)
+    pub lower : totalUnder u ns (set (c .chosen) k 1) < totalUnder u ns (c .chosen)
 
   -- what a visit of node k does: the node goes in, or nothing changes
   pub data Visited (k : ℕ) (c : Choice) : Choice → Type 0 where
     enters : Goes k c → Visited k c (record { picks = c .picks + 1; chosen = set (c .chosen) k 1 })
     stays : Visited k c c
 
-  pub visited : (k : ℕ) (c : Choice) → Visited k c (visit allowance v ns k c)
-  visited k c = go (goesIn allowance v ns k c) refl
+  pub visited : (k : ℕ) (c : Choice) → Visited k c (visit allowance u ns k c)
+  visited k c = go (goesIn allowance u ns k c) refl
     where
-      go : (b : Bool) → goesIn allowance v ns k c ≡ b
+      go : (b : Bool) → goesIn allowance u ns k c ≡ b
           → Visited k c (cond b (record { picks = c .picks + 1; chosen = set (c .chosen) k 1 }) c)
       go true e =
-          let first = both-true _ _ e in
-          let rest = both-true _ _ (first .1) in
+          let first = both _ _ e in
+          let rest = both _ _ (first .1) in
           enters (record { fewer = ltb-true _ _ (first .0); may = rest .0; lower = ltb-true _ _ (rest .1) })
       go false e = stays
 
@@ -105,7 +102,7 @@ module _ (allowance v : ℕ) (ns : List Node) where
       let more = below-set s k (length ns) h (omega (arith, f .right .size)) (f .unvisited k (omega arith)) in
       record {
         right = right-set-more ns s k (f .right) (g .may);
-        unvisited = λ i l. renamed-set-other s k i (omega arith) ∙ f .unvisited i (omega arith);
+        unvisited = λ i l. renamed-set-other s k 1 i (omega arith) ∙ f .unvisited i (omega arith);
         within = omega (arith, g .fewer);
         counted = omega (arith, f .counted, more);
       }
@@ -116,21 +113,21 @@ module _ (allowance v : ℕ) (ns : List Node) where
     counted = f .counted;
   }
 
-  fits-visits : (k : ℕ) (c : Choice) → k ≤ length ns → Fits k c → Fits 0 (visitsFrom allowance v ns k c)
+  fits-visits : (k : ℕ) (c : Choice) → k ≤ length ns → Fits k c → Fits 0 (visitsFrom allowance u ns k c)
   unfolding visitsFrom
   fits-visits zero c h f = f
   fits-visits (suc k) c h f = fits-visits k _ (omega arith) (fits-visit k c _ h f (visited k c))
 
-  fits : Fits 0 (choose allowance v ns)
+  fits : Fits 0 (choose allowance u ns)
   fits = fits-visits (length ns) (nothing ns) (omega arith) fits-start
 
-  pub picks-most : choose allowance v ns .picks ≤ allowance
+  pub picks-most : choose allowance u ns .picks ≤ allowance
   picks-most = fits .within
 
   -- what is reported is the number of renamed nodes
-  pub picks-counted : choose allowance v ns .picks ≡ renamedBelow (choose allowance v ns .chosen) (length ns)
+  pub picks-counted : choose allowance u ns .picks ≡ renamedBelow (choose allowance u ns .chosen) (length ns)
   picks-counted = fits .counted
 
   -- the chosen set is accepted for converting
-  pub chosen-right : setChecked ns (choose allowance v ns .chosen) ≡ Accepted 0 0
-  chosen-right = set-checked ns (choose allowance v ns .chosen) (fits .right)
+  pub chosen-right : setChecked ns (choose allowance u ns .chosen) ≡ Accepted 0 0
+  chosen-right = set-checked ns (choose allowance u ns .chosen) (fits .right)

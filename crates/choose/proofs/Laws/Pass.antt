@@ -2,70 +2,103 @@
 -- Assumes nothing.
 use mathlib.Core.Path.{_≡_, refl, sym, ap, _∙_, subst}
 use mathlib.Core.Bool.{Bool, true, false, cond}
-use mathlib.Core.List.{List}
+use mathlib.Core.List.{List, []}
 use Prim.Native.Nat.{ℕ, zero, suc, _+_, _-_, _<_, _≤_}
 use native.Mathlib.Omega.{arith}
-use lib.ListN.{length, getD, replicate, length-replicate}
-use Rattle.answer.specs.Part.{Wrote}
+use lib.Dec.{eqb}
+use lib.ListN.{length, getD, set, replicate, length-replicate}
 use Rattle.answer.specs.declared.Answer.the-variants.{Accepted}
+use Rattle.formula.specs.Nodes.{nodeCount, nodesOf}
+use Rattle.formula.specs.Sets.{renamed}
 use Rattle.formula.specs.declared.node.Node.{Node}
-use Rattle.clausal.specs.Choosing.{Choice, totalUnder, goesIn, visit, visitsFrom, choose}
-use Rattle.clausal.specs.Output.{wholeOf}
+use Rattle.formula.proofs.Laws.Tables.{length-nodesOf}
+use Rattle.clausal.specs.Choosing.{Choice, totalUnder, taken, goesIn, visit, visitsFrom, choose}
+use Rattle.clausal.specs.Renamings.{Renaming, renaming}
+use Rattle.totals.specs.Inner.Columns.{Ready}
+use Rattle.totals.specs.Inner.Sums.{Low}
 use Rattle.choose.specs.Chosen.{told}
-use Rattle.choose.specs.Counted.{counted, Ready}
-use Rattle.choose.specs.Visits.{Standing, Visited}
-use Rattle.choose.proofs.Laws.Visits.{counted-total}
+use Rattle.choose.specs.Inner.Visits.{Passable, Standing, Visitable, Visited}
 
 zeros : (n j : ℕ) → _≡_ {A = ℕ} (getD (replicate n 0) j 0) 0
 zeros zero j = refl
 zeros (suc n) zero = refl
 zeros (suc n) (suc j) = zeros n j
 
-module _ (allowance : ℕ) (ns : List Node) where
-  -- the nodes below i are left
-  pub record Passing (i picks sum : ℕ) (s p n : List ℕ) : Type 0 where
-    pub rest : visitsFrom allowance 0 ns i (record { picks = picks; chosen = s }) ≡ choose allowance 0 ns
-    pub stands : Standing ns i s sum p n
-    pub few : picks + i ≤ length ns
+module _ (t marks empty : List ℕ) (allowance : ℕ) where
+  abbrev u : Renaming
+  u = renaming 0 []
 
-  pub passing-start : (sum : ℕ) (p n : List ℕ) → Ready (replicate (length ns) 0) ns (length ns) p n
-      → sum ≡ wholeOf counted 0 (replicate (length ns) 0) ns → Passing (length ns) 0 sum (replicate (length ns) 0) p n
-  passing-start sum p n r e = record {
-    rest = refl;
+  abbrev ns : List Node
+  ns = nodesOf t
+
+  -- the nodes below i are left
+  pub record Passing (i picks sum : ℕ) (s : List ℕ) (cs ls : List (List ℕ)) : Type 0 where
+    pub asked : Passable t marks empty
+    pub rest : visitsFrom allowance u ns i (record { picks = picks; chosen = s }) ≡ choose allowance u ns
+    pub stands : Standing ns i s sum cs ls
+    pub few : picks + i ≤ nodeCount t
+
+  pub passing-start : (sum : ℕ) (cs ls : List (List ℕ)) → Passable t marks empty → Ready empty ns (nodeCount t) cs ls
+      → sum ≡ totalUnder u ns empty → Passing (nodeCount t) 0 sum empty cs ls
+  passing-start sum cs ls asked ready e = record {
+    asked = asked;
+    rest =
+        ap (λ (n : ℕ). visitsFrom allowance u ns n (record { picks = 0; chosen = empty })) (sym (length-nodesOf t))
+        ∙ ap (λ (l : List ℕ). visitsFrom allowance u ns (length ns) (record { picks = 0; chosen = l })) (asked .empty);
     stands = record {
-      size = length-replicate {A = ℕ} (length ns) 0;
-      low = λ j h. zeros (length ns) j;
-      total = e ∙ sym (counted-total (replicate (length ns) 0) ns);
-      ready = r;
+      size = ap length (asked .empty) ∙ length-replicate {A = ℕ} (length ns) 0;
+      low = λ j h. ap (λ (l : List ℕ). getD l j 0) (asked .empty) ∙ zeros (length ns) j;
+      total = e;
+      ready = ready;
     };
     few = omega arith;
   }
 
-  picks-more : (i : ℕ) (c : Choice) → visit allowance 0 ns i c .picks ≤ c .picks + 1
-  picks-more i c = go (goesIn allowance 0 ns i c)
+  pub empty-low : Passable t marks empty → Low empty (nodeCount t)
+  empty-low asked j h = ap (λ (l : List ℕ). renamed l j) (asked .empty) ∙ ap (λ (b : ℕ). eqb b 1) (zeros (length ns) j)
+
+  picks-more : (i : ℕ) (c : Choice) → visit allowance u ns i c .picks ≤ c .picks + 1
+  picks-more i c = go (goesIn allowance u ns i c)
     where
-      go : (b : Bool) → cond b (record { picks = c .picks + 1; chosen = lib.ListN.set (c .chosen) i 1 }) c .picks ≤ c .picks + 1
+      go : (b : Bool) → cond b (taken i c) c .picks ≤ c .picks + 1
       go true = omega arith
       go false = omega arith
 
-  pub passing-step : (i picks next sum after : ℕ) (s p n t q m : List ℕ) → Passing i picks sum s p n → 0 < i
-      → Visited allowance ns (i - 1) (record { picks = picks; chosen = s }) (record { picks = next; chosen = t }) after q m
-      → Passing (i - 1) next after t q m
-  unfolding visitsFrom
-  passing-step i picks next sum after s p n t q m g h v =
-      let k : i ≡ suc (i - 1) = omega arith in
-      let before : Choice = record { picks = picks; chosen = s } in
-      record {
-        rest =
-            ap (visitsFrom allowance 0 ns (i - 1)) (v .choice)
-            ∙ ap (λ (j : ℕ). visitsFrom allowance 0 ns j before) (sym k)
-            ∙ g .rest;
-        stands = v .stands;
-        few = omega (arith, g .few, picks-more (i - 1) before, ap (λ (c : Choice). c .picks) (v .choice));
-      }
+  module _ (i picks sum : ℕ) (s : List ℕ) (cs ls : List (List ℕ)) (g : Passing i picks sum s cs ls) where
+    pub passing-size : length s ≡ length empty
+    passing-size = g .stands .size ∙ sym (ap length (g .asked .empty) ∙ length-replicate {A = ℕ} (length ns) 0)
 
-  pub passing-end : (picks sum : ℕ) (s p n : List ℕ) → Passing 0 picks sum s p n
-      → record { answer = Accepted picks sum; output = s } ≡ told 0 ns (choose allowance 0 ns)
-  unfolding visitsFrom
-  passing-end picks sum s p n g =
-      ap (λ (x : ℕ). record { answer = Accepted picks x; output = s }) (g .stands .total) ∙ ap (told 0 ns) (g .rest)
+    pub passing-next : 0 < i → Visitable t marks (i - 1) picks sum s cs ls
+    passing-next h =
+        let k : i ≡ i - 1 + 1 = omega arith in
+        record {
+          marked = g .asked .marked;
+          below = g .asked .below;
+          inside = omega (arith, g .few);
+          few = omega (arith, g .few, g .asked .marked .size .most);
+          stands = subst (λ (j : ℕ). Standing ns j s sum cs ls) k (g .stands);
+        }
+
+    pub passing-step : (next after : ℕ) (r : List ℕ) (ds ms : List (List ℕ)) → 0 < i
+        → Visited allowance ns (i - 1) (record { picks = picks; chosen = s }) (record { picks = next; chosen = r }) after ds ms
+        → Passing (i - 1) next after r ds ms
+    unfolding visitsFrom
+    passing-step next after r ds ms h v =
+        let k : i ≡ suc (i - 1) = omega arith in
+        let before : Choice = record { picks = picks; chosen = s } in
+        record {
+          asked = g .asked;
+          rest =
+              ap (visitsFrom allowance u ns (i - 1)) (v .choice)
+              ∙ ap (λ (j : ℕ). visitsFrom allowance u ns j before) (sym k)
+              ∙ g .rest;
+          stands = v .stands;
+          few = omega (arith, g .few, picks-more (i - 1) before, ap (λ (c : Choice). c .picks) (v .choice));
+        }
+
+    pub passing-end : i ≡ 0 → record { answer = Accepted picks sum; output = s } ≡ told u ns (choose allowance u ns)
+    unfolding visitsFrom
+    passing-end e =
+        ap (λ (x : ℕ). record { answer = Accepted picks x; output = s }) (g .stands .total)
+        ∙ ap (λ (j : ℕ). told u ns (visitsFrom allowance u ns j (record { picks = picks; chosen = s }))) (sym e)
+        ∙ ap (told u ns) (g .rest)

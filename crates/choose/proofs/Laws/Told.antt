@@ -2,7 +2,7 @@
 -- Assumes nothing.
 use mathlib.Core.Path.{_≡_, ap, _∙_}
 use mathlib.Core.Bool.{cond}
-use mathlib.Core.List.{List}
+use mathlib.Core.List.{List, []}
 use Prim.Native.Nat.{ℕ}
 use lib.Dec.{eqb}
 use lib.ListN.{length}
@@ -10,15 +10,18 @@ use Rattle.answer.specs.Part.{Wrote}
 use Rattle.answer.specs.declared.Answer.the-variants.{Accepted, Set}
 use Rattle.formula.specs.declared.node.Node.{Node}
 use Rattle.clausal.specs.Choosing.{Choice, choose}
-use Rattle.clausal.specs.Totals.{Size}
-use Rattle.clausal.proofs.Options.{totals-options}
+use Rattle.clausal.specs.Renamings.{renaming}
 use Rattle.choose.specs.Chosen.{told, chosenUnder}
-use Rattle.choose.proofs.Allowances.{choose-options}
+use Rattle.choose.proofs.Allowances.{total-options, choose-options}
 
-told-options : (v w : ℕ) (ns : List Node) (c : Choice) → told v ns c ≡ told w ns c
-told-options v w ns c = ap (λ (x : Size). record { answer = Accepted (c .picks) (x .clauses); output = c .chosen }) (totals-options v w (c .chosen) ns)
+module _ (v w : ℕ) (ns : List Node) (allowance : ℕ) where
+  told-options : (c : Choice) → told (renaming v []) ns c ≡ told (renaming w []) ns c
+  told-options c =
+      ap (λ (x : ℕ). record { answer = Accepted (c .picks) x; output = c .chosen })
+      (total-options allowance (renaming v []) w ns (c .chosen))
 
-pub chosen-options : (v w : ℕ) (ns : List Node) (allowance : ℕ) (before : List ℕ) → chosenUnder v ns allowance before ≡ chosenUnder w ns allowance before
-chosen-options v w ns allowance before =
-    ap (λ (x : Wrote). cond (eqb (length before) (length ns)) x (record { answer = Set (length ns); output = before }))
-    (told-options v w ns (choose allowance v ns) ∙ ap (told w ns) (choose-options allowance v w ns))
+  pub chosen-options : (before : List ℕ) → chosenUnder v ns allowance before ≡ chosenUnder w ns allowance before
+  chosen-options before =
+      ap (λ (x : Wrote (List ℕ)). cond (eqb (length before) (length ns)) x (record { answer = Set (length ns); output = before }))
+      (told-options (choose allowance (renaming v []) ns)
+      ∙ ap (told (renaming w []) ns) (choose-options allowance (renaming v []) w ns))

@@ -1,123 +1,126 @@
--- A trial and a visit: what the arrays hold under the next set, and which choice the rule makes.
+-- A visit: which choice the rule makes, and what stands for the next one.
 -- Assumes nothing.
 use mathlib.Core.Path.{_≡_, refl, sym, ap, _∙_, subst}
-use mathlib.Core.Logic.{_⊎_, inl, inr, ⊎-elim}
+use mathlib.Core.Logic.{inl}
 use mathlib.Core.Bool.{Bool, true, false, cond, _&&_}
-use mathlib.Core.List.{List}
-use Prim.Native.Nat.{ℕ, zero, suc, _+_, _<_, _≤_}
+use mathlib.Core.List.{List, []}
+use Prim.Native.Nat.{ℕ, _+_, _<_, _≤_}
 use native.Mathlib.Omega.{arith}
-use lib.Dec.{ltb}
+use lib.Dec.{eqb, ltb}
 use lib.ListN.{length, getD, set, length-set}
 use lib.Seq.{getD-set-other, set-set, set-getD}
-use borrow.Author.Tests.{lt-ltb, le-ltb}
-use Rattle.formula.specs.Records.{ChildrenBelow}
-use Rattle.formula.specs.Sets.{mayRename}
+use borrow.Author.Tests.{lt-ltb, le-ltb, ltb-true}
+use Rattle.formula.specs.Inner.Right.{Below}
+use Rattle.formula.specs.Nodes.{nodeIn}
+use Rattle.formula.specs.Sets.{renamed, mayRename}
 use Rattle.formula.specs.declared.node.Node.{Node}
 use Rattle.clausal.specs.Algebra.{Row}
-use Rattle.clausal.specs.Choosing.{Choice, totalUnder, goesIn, visit}
-use Rattle.clausal.specs.Helpers.{renamed}
-use Rattle.clausal.specs.Origins.{Origin}
-use Rattle.clausal.specs.Output.{wholeOf}
-use Rattle.clausal.specs.Rows.{rowOf}
-use Rattle.clausal.specs.Totals.{Size, capped, totals}
-use Rattle.clausal.proofs.Related.{Keeps, keeps-of-map, related-whole}
-use Rattle.clausal.proofs.Rows.{row-past}
-use Rattle.choose.specs.Counted.{counted, pairIn, Ready}
-use Rattle.choose.specs.Visits.{Standing, Tried, Visited}
-use Rattle.choose.proofs.Laws.Reuse.{rows-kept-by-trial, rows-same-below}
-
--- clause totals alone are the clause totals of the rules
-pub counted-total : (s : List ℕ) (ns : List Node) → totalUnder 0 ns s ≡ wholeOf counted 0 s ns
-counted-total s ns =
-    related-whole capped counted (λ x n. x .clauses ≡ n) 0 s ns
-    (keeps-of-map (Origin 0 s ns) capped counted (λ x. x .clauses) refl refl (λ plain x. refl) (λ x y. refl) (λ x y. refl))
-
-module _ (ns : List Node) (below : ChildrenBelow ns) (s : List ℕ) where
-  -- the arrays of a set serve the trial of node i up to that node ..
-  pub ready-trial : (i : ℕ) (p n : List ℕ) → Ready s ns (i + 1) p n → Ready (set s i 1) ns (i + 1) p n
-  ready-trial i p n r = record {
-    sizes = r .sizes;
-    rows = λ j q. r .rows j q ∙ ⊎-elim (λ h. sym (rows-kept-by-trial counted 0 ns below s i j (omega arith))) (λ h. row-past counted 0 s ns j h ∙ sym (row-past counted 0 (set s i 1) ns j h)) q;
-  }
-
-  -- .. and those of the trial serve the set below that node
-  pub ready-back : (i : ℕ) (p n : List ℕ) → i ≤ length ns → Ready (set s i 1) ns (length ns) p n → Ready s ns i p n
-  ready-back i p n l r = record {
-    sizes = r .sizes;
-    rows = λ j q. ⊎-elim
-        (λ h. r .rows j (inl (omega arith)) ∙ rows-kept-by-trial counted 0 ns below s i j (omega arith))
-        (λ h. r .rows j (inr h) ∙ row-past counted 0 (set s i 1) ns j h ∙ sym (row-past counted 0 s ns j h)) q;
-  }
-
--- arrays that hold more hold less
-pub ready-less : (s : List ℕ) (ns : List Node) (i k : ℕ) (p n : List ℕ) → i ≤ k → Ready s ns k p n → Ready s ns i p n
-ready-less s ns i k p n l r = record {
-  sizes = r .sizes;
-  rows = λ j q. ⊎-elim (λ h. r .rows j (inl (omega arith))) (λ h. r .rows j (inr h)) q;
-}
+use Rattle.clausal.specs.Choosing.{Choice, totalUnder, falls, taken, goesIn}
+use Rattle.clausal.specs.Renamings.{Renaming, renaming}
+use Rattle.clausal.specs.Totals.{Size}
+use Rattle.clausal.proofs.Renamed.{renamed-set-other}
+use Rattle.totals.specs.Inner.Columns.{cell, Ready}
+use Rattle.totals.specs.Inner.Sums.{Low, Tried}
+use Rattle.totals.proofs.Laws.Columns.{ready-back, ready-less}
+use Rattle.totals.proofs.Laws.Small.{small-stays}
+use Rattle.laws.proofs.Choices.{both}
+use Rattle.choose.specs.Inner.Visits.{Standing, Attempted, Visited}
 
 module _ (allowance : ℕ) (ns : List Node) (i : ℕ) (picks : ℕ) (s : List ℕ) where
+  abbrev u : Renaming
+  u = renaming 0 []
+
   abbrev before : Choice
   before = record { picks = picks; chosen = s }
 
-  visit-out : goesIn allowance 0 ns i before ≡ false → before ≡ visit allowance 0 ns i before
-  visit-out e = rw e
+  -- the total with node i in, and the total without it
+  abbrev with : ℕ
+  with = totalUnder u ns (set s i 1)
 
-  visit-in : goesIn allowance 0 ns i before ≡ true → record { picks = picks + 1; chosen = set s i 1 } ≡ visit allowance 0 ns i before
-  visit-in e = rw e
+  abbrev without : ℕ
+  without = totalUnder u ns s
 
   and-false : (a b : Bool) → b ≡ false → (a && b) ≡ false
   and-false true b e = e
   and-false false b e = refl
 
-  -- a node that is not tried
-  stands-on : (sum : ℕ) (p n : List ℕ) → Standing ns (i + 1) s sum p n → Standing ns i s sum p n
-  stands-on sum p n st = record {
-    size = st .size;
-    low = λ j h. st .low j (omega arith);
-    total = st .total;
-    ready = ready-less s ns i (i + 1) p n (omega arith) (st .ready);
-  }
-
-  pub full : (sum : ℕ) (p n : List ℕ) → allowance ≤ picks → Standing ns (i + 1) s sum p n → Visited allowance ns i before before sum p n
-  full sum p n h st = record { choice = visit-out (rw (le-ltb picks allowance h)); stands = stands-on sum p n st }
-
-  pub not-allowed : (sum : ℕ) (p n : List ℕ) → mayRename ns i ≡ false → Standing ns (i + 1) s sum p n → Visited allowance ns i before before sum p n
-  not-allowed sum p n e st = record {
-    choice = visit-out (and-false (ltb picks allowance) (mayRename ns i && ltb (totalUnder 0 ns (set s i 1)) (totalUnder 0 ns s)) (rw e));
-    stands = stands-on sum p n st;
-  }
-
-  -- a node that is tried: it may be renamed, and the allowance is not used up
-  module _ (room : picks < allowance) (may : mayRename ns i ≡ true) (inside : i < length ns) (below : ChildrenBelow ns) where
-    pub accepted : (sum next : ℕ) (p n q m after : List ℕ) → Standing ns (i + 1) s sum p n → Tried ns i s after next q m → next < sum
-        → Visited allowance ns i before (record { picks = picks + 1; chosen = after }) next q m
-    accepted sum next p n q m after st t h = record {
-      choice =
-          ap (λ (l : List ℕ). record { picks = picks + 1; chosen = l }) (t .in-set)
-          ∙ visit-in (rw (lt-ltb picks allowance room, may) (lt-ltb (totalUnder 0 ns (set s i 1)) (totalUnder 0 ns s) (omega (arith, st .total, t .total, ap (totalUnder 0 ns) (t .in-set)))));
+  module _ (sum : ℕ) (cs ls : List (List ℕ)) (stands : Standing ns (i + 1) s sum cs ls) where
+    -- a node that does not go in
+    stays : goesIn allowance u ns i before ≡ false → Visited allowance ns i before before sum cs ls
+    stays e = record {
+      choice = rw e;
       stands = record {
-        size = ap length (t .in-set) ∙ length-set s i 1 ∙ st .size;
-        low = λ j g. ap (λ (l : List ℕ). getD l j 0) (t .in-set) ∙ getD-set-other s i j 1 0 (λ e. omega arith) ∙ st .low j (omega arith);
-        total = t .total;
-        ready = ready-less after ns i (length ns) q m (omega arith) (t .ready);
+        size = stands .size;
+        low = λ j h. stands .low j (omega arith);
+        total = stands .total;
+        ready = ready-less s ns i (i + 1) cs ls (omega arith) (stands .ready);
       };
     }
 
-    pub rejected : (sum next : ℕ) (p n q m after : List ℕ) → Standing ns (i + 1) s sum p n → Tried ns i s after next q m → sum ≤ next
-        → Visited allowance ns i before (record { picks = picks; chosen = set after i 0 }) sum q m
-    rejected sum next p n q m after st t h =
-        let back : set after i 0 ≡ s =
-        ap (λ (l : List ℕ). set l i 0) (t .in-set) ∙ set-set s i 1 0 ∙ ap (set s i) (sym (st .low i (omega arith))) ∙ set-getD s i 0 in
-        let ready : Ready s ns i q m = ready-back ns below s i q m (omega arith) (subst (λ (l : List ℕ). Ready l ns (length ns) q m) (t .in-set) (t .ready)) in
-        record {
-          choice =
-              ap (λ (l : List ℕ). record { picks = picks; chosen = l }) back
-              ∙ visit-out (rw (lt-ltb picks allowance room, may) (le-ltb (totalUnder 0 ns (set s i 1)) (totalUnder 0 ns s) (omega (arith, st .total, t .total, ap (totalUnder 0 ns) (t .in-set)))));
-          stands = subst (λ (l : List ℕ). Standing ns i l sum q m) (sym back) (record {
-            size = st .size;
-            low = λ j g. st .low j (omega arith);
-            total = st .total;
-            ready = ready;
-          });
-        }
+    pub full : allowance ≤ picks → Visited allowance ns i before before sum cs ls
+    full h = stays (rw (le-ltb picks allowance h))
+
+    pub not-allowed : mayRename ns i ≡ false → Visited allowance ns i before before sum cs ls
+    not-allowed e = stays (and-false (ltb picks allowance) (mayRename ns i && falls u ns i before) (rw e))
+
+    -- its P and N have at most one clause each
+    pub too-small : ((j : ℕ) → Below j (nodeIn ns j)) → i < length ns → (ltb (cell cs 0 i) 2 && ltb (cell cs 1 i) 2) ≡ true
+        → Visited allowance ns i before before sum cs ls
+    too-small below inside e =
+        let small = both (ltb (cell cs 0 i) 2) (ltb (cell cs 1 i) 2) e in
+        let p : cell cs 0 i < 2 = ltb-true (cell cs 0 i) 2 (small .0) in
+        let n : cell cs 1 i < 2 = ltb-true (cell cs 1 i) 2 (small .1) in
+        let row = stands .ready .rows i (inl (omega arith)) in
+        let plain : renamed s i ≡ false = ap (λ (b : ℕ). eqb b 1) (stands .low i (omega arith)) in
+        let h = small-stays ns below (renaming 0 s) i (omega (arith, stands .size)) plain
+        (omega (arith, ap (λ (r : Row Size). r .P .clauses) row)) (omega (arith, ap (λ (r : Row Size). r .N .clauses) row)) in
+        stays (and-false (ltb picks allowance) _ (and-false (mayRename ns i) (falls u ns i before) (le-ltb with without h)))
+
+    -- with node i in, no node below it is renamed
+    pub tried-low : Low (set s i 1) i
+    tried-low j h = renamed-set-other s i 1 j (omega arith) ∙ ap (λ (b : ℕ). eqb b 1) (stands .low j (omega arith))
+
+    -- a node that is tried
+    module _ (next : ℕ) (after : List ℕ) (ds ms : List (List ℕ)) (t : Tried ns i 1 s after next ds ms) (inside : i < length ns) where
+      is-with : next ≡ with
+      is-with = t .total ∙ ap (totalUnder u ns) (t .in-set)
+
+      pub accepted : next < sum → Attempted ns i before (record { picks = picks + 1; chosen = after }) next ds ms
+      accepted h = record {
+        choice =
+            ap (λ (l : List ℕ). record { picks = picks + 1; chosen = l }) (t .in-set)
+            ∙ sym (ap (λ (b : Bool). cond b (taken i before) before) (lt-ltb with without (omega (arith, stands .total, is-with))));
+        stands = record {
+          size = ap length (t .in-set) ∙ length-set s i 1 ∙ stands .size;
+          low = λ j g.
+              ap (λ (l : List ℕ). getD l j 0) (t .in-set) ∙ getD-set-other s i j 1 0 (λ e. omega arith) ∙ stands .low j (omega arith);
+          total = t .total;
+          ready = ready-less after ns i (length ns) ds ms (omega arith) (t .ready);
+        };
+      }
+
+      pub rejected : ((j : ℕ) → Below j (nodeIn ns j)) → sum ≤ next
+          → Attempted ns i before (record { picks = picks; chosen = set after i 0 }) sum ds ms
+      rejected below h =
+          let back : set after i 0 ≡ s =
+          ap (λ (l : List ℕ). set l i 0) (t .in-set) ∙ set-set s i 1 0 ∙ ap (set s i) (sym (stands .low i (omega arith))) ∙ set-getD s i 0 in
+          let up : Ready (set s i 1) ns i ds ms =
+          ready-less (set s i 1) ns i (length ns) ds ms (omega arith)
+          (subst (λ (l : List ℕ). Ready l ns (length ns) ds ms) (t .in-set) (t .ready)) in
+          subst (λ (l : List ℕ). Attempted ns i before (record { picks = picks; chosen = l }) sum ds ms) (sym back) (record {
+            choice = sym (ap (λ (b : Bool). cond b (taken i before) before) (le-ltb with without (omega (arith, stands .total, is-with))));
+            stands = record {
+              size = stands .size;
+              low = λ j g. stands .low j (omega arith);
+              total = stands .total;
+              ready = ready-back ns below s i 1 ds ms i (omega arith) up;
+            };
+          })
+
+  -- an attempt is a visit where the allowance is not used up and the node may be renamed
+  pub attempted : (after : Choice) (sum : ℕ) (cs ls : List (List ℕ)) → picks < allowance → mayRename ns i ≡ true
+      → Attempted ns i before after sum cs ls → Visited allowance ns i before after sum cs ls
+  attempted after sum cs ls room may a = record {
+    choice = a .choice ∙ rw (lt-ltb picks allowance room, may);
+    stands = a .stands;
+  }

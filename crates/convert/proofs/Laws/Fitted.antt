@@ -1,82 +1,108 @@
--- What the totals decide: totals read at their ceilings decide as the true ones do, and what fits is written.
+-- Refusals 5 to 7: totals read at their ceilings decide as the true ones do, and room is asked for the bytes of the output.
 -- Assumes nothing.
-use mathlib.Core.Path.{_≡_, refl, sym, ap, _∙_, subst}
+use mathlib.Core.Path.{_≡_, refl, sym, ap, _∙_}
 use mathlib.Core.Bool.{Bool, true, false, cond}
-use mathlib.Core.List.{List, [], _∷_, _++_}
-use Prim.Native.Nat.{ℕ, _+_, _*_, _<_, _≤_}
+use mathlib.Core.List.{List, [], _∷_}
+use Prim.Native.Nat.{ℕ, _<_, _≤_}
 use native.Mathlib.Omega.{arith}
-use lib.Dec.{T, ltb}
+use lib.Dec.{ltb}
 use lib.ListN.{length, length-append}
 use borrow.Author.Tests.{ltb-true, ltb-false, lt-ltb, le-ltb}
-use Rattle.laws.specs.Caps.{cap}
+use Rattle.laws.specs.Lists.{splice}
+use Rattle.laws.specs.Numbers.{cap}
 use Rattle.answer.specs.Numbers.{refuses}
+use Rattle.answer.specs.Part.{Wrote, afterwards, stored}
 use Rattle.answer.specs.declared.Answer.{Answer}
 use Rattle.answer.specs.declared.Answer.the-variants.{Accepted, Clauses, Literals, Room}
-use Rattle.formula.specs.declared.node.Node.{Node}
 use Rattle.clausal.specs.Literals.{Clause, clauseBytes, clausesBytes}
-use Rattle.clausal.specs.Output.{outputOf}
-use Rattle.clausal.specs.Totals.{Size, literalsIn, sizeOf, shown, totals, clauseCeiling, literalCeiling}
-use Rattle.clausal.proofs.Ceilings.{read-under}
-use Rattle.clausal.proofs.Options.{totals-options}
-use Rattle.clausal.proofs.Totals.{totals-output}
-use Rattle.convert.specs.Converted.{bytesFor, fitted}
+use Rattle.clausal.specs.Totals.{Size, sizeOf, shown, clauseCeiling, literalCeiling}
+use Rattle.convert.specs.Converted.{ceilings}
 use Rattle.convert.proofs.Laws.Parts.{length-clause}
+use Rattle.convert.specs.Inner.Fitted.{bytesFor, fitted}
 
--- what an answer that is no refusal says
-pub record Fits (x : Size) (room : ℕ) : Type 0 where
-  pub clauses : x .clauses < clauseCeiling
-  pub literals : x .literals < literalCeiling
-  pub enough : bytesFor x ≤ room
+-- which of the refusals comes: 5, 6, 7 or none
+data Case (x : Size) (room : ℕ) : Type 0 where
+  many-clauses : clauseCeiling ≤ x .clauses → Case x room
+  many-literals : x .clauses < clauseCeiling → literalCeiling ≤ x .literals → Case x room
+  no-room : x .clauses < clauseCeiling → x .literals < literalCeiling → room < bytesFor x → Case x room
+  fits : x .clauses < clauseCeiling → x .literals < literalCeiling → bytesFor x ≤ room → Case x room
 
-pub fits : (x : Size) (room : ℕ) → refuses (fitted x room) ≡ false → Fits x room
-fits x room e = go (ltb (x .clauses) clauseCeiling) (ltb (x .literals) literalCeiling) (ltb room (bytesFor x)) refl refl refl e
+case : (x : Size) (room : ℕ) → Case x room
+case x room = go (ltb (x .clauses) clauseCeiling) refl (ltb (x .literals) literalCeiling) refl (ltb room (bytesFor x)) refl
   where
-    go : (a b c : Bool) → ltb (x .clauses) clauseCeiling ≡ a → ltb (x .literals) literalCeiling ≡ b → ltb room (bytesFor x) ≡ c
-        → refuses (cond a (cond b (cond c Room (Accepted 0 0)) Literals) Clauses) ≡ false → Fits x room
-    go true true false p q r e =
-        record { clauses = ltb-true (x .clauses) clauseCeiling p; literals = ltb-true (x .literals) literalCeiling q; enough = ltb-false room (bytesFor x) r }
-    go true true true p q r e = absurd (subst T e tt)
-    go true false c p q r e = absurd (subst T e tt)
-    go false b c p q r e = absurd (subst T e tt)
+    go : (a : Bool) → ltb (x .clauses) clauseCeiling ≡ a → (b : Bool) → ltb (x .literals) literalCeiling ≡ b → (c : Bool) → ltb room (bytesFor x) ≡ c → Case x room
+    go false p b q c r = many-clauses (ltb-false _ _ p)
+    go true p false q c r = many-literals (ltb-true _ _ p) (ltb-false _ _ q)
+    go true p true q true r = no-room (ltb-true _ _ p) (ltb-true _ _ q) (ltb-true _ _ r)
+    go true p true q false r = fits (ltb-true _ _ p) (ltb-true _ _ q) (ltb-false _ _ r)
 
--- refusal 5, and 6 where 5 is not given
-many-clauses : (x : Size) (room : ℕ) → clauseCeiling ≤ x .clauses → fitted x room ≡ Clauses
-many-clauses x room h =
-    ap (λ (b : Bool). cond b (cond (ltb (x .literals) literalCeiling) (cond (ltb room (bytesFor x)) Room (Accepted 0 0)) Literals) Clauses) (le-ltb (x .clauses) clauseCeiling h)
+refused-clauses : (x : Size) (room : ℕ) → clauseCeiling ≤ x .clauses → fitted x room ≡ Clauses
+refused-clauses x room h = rw (le-ltb (x .clauses) clauseCeiling h)
 
-many-literals : (x : Size) (room : ℕ) → x .clauses < clauseCeiling → literalCeiling ≤ x .literals → fitted x room ≡ Literals
-many-literals x room h g =
-    λ i. cond (lt-ltb (x .clauses) clauseCeiling h i) (cond (le-ltb (x .literals) literalCeiling g i) (cond (ltb room (bytesFor x)) Room (Accepted 0 0)) Literals) Clauses
+refused-literals : (x : Size) (room : ℕ) → x .clauses < clauseCeiling → literalCeiling ≤ x .literals → fitted x room ≡ Literals
+refused-literals x room h g = rw (lt-ltb (x .clauses) clauseCeiling h, le-ltb (x .literals) literalCeiling g)
+
+-- below both ceilings the totals as reported are the true ones
+shown-below : (x : Size) → x .clauses < clauseCeiling → x .literals < literalCeiling → shown x ≡ x
+shown-below x h g =
+    let c : cap clauseCeiling (x .clauses) ≡ x .clauses = omega arith in
+    let l : cap literalCeiling (x .literals) ≡ x .literals = omega arith in
+    rw (c, l, lt-ltb (x .clauses) clauseCeiling h)
 
 -- totals read at their ceilings decide as the true ones do
 pub fitted-shown : (x : Size) (room : ℕ) → fitted (shown x) room ≡ fitted x room
-fitted-shown x room = go (ltb (x .clauses) clauseCeiling) refl (ltb (x .literals) literalCeiling) refl
+fitted-shown x room = go (case x room)
   where
-    stated : (a : Bool) → ltb (x .clauses) clauseCeiling ≡ a → shown x .literals ≡ cond a (cap literalCeiling (x .literals)) literalCeiling
-    stated a p = ap (λ (b : Bool). cond b (cap literalCeiling (x .literals)) literalCeiling) p
+    below : x .clauses < clauseCeiling → shown x .literals ≡ cap literalCeiling (x .literals)
+    below h = ap (λ (b : Bool). cond b (cap literalCeiling (x .literals)) literalCeiling) (lt-ltb (x .clauses) clauseCeiling h)
 
-    go : (a : Bool) → ltb (x .clauses) clauseCeiling ≡ a → (b : Bool) → ltb (x .literals) literalCeiling ≡ b → fitted (shown x) room ≡ fitted x room
-    go true p true q =
-        let c : shown x .clauses ≡ x .clauses = omega (arith, ltb-true (x .clauses) clauseCeiling p) in
-        let l : shown x .literals ≡ x .literals = stated true p ∙ omega (arith, ltb-true (x .literals) literalCeiling q) in
-        λ i. fitted (record { clauses = c i; literals = l i }) room
-    go true p false q =
-        let below = ltb-true (x .clauses) clauseCeiling p in
-        let over = ltb-false (x .literals) literalCeiling q in
-        many-literals (shown x) room (omega (arith, below)) (omega (arith, over, stated true p)) ∙ sym (many-literals x room below over)
-    go false p b q =
-        let over = ltb-false (x .clauses) clauseCeiling p in
-        many-clauses (shown x) room (omega (arith, over)) ∙ sym (many-clauses x room over)
+    go : Case x room → fitted (shown x) room ≡ fitted x room
+    go (many-clauses h) = refused-clauses (shown x) room (omega arith) ∙ sym (refused-clauses x room h)
+    go (many-literals h g) = refused-literals (shown x) room (omega arith) (omega (arith, below h)) ∙ sym (refused-literals x room h g)
+    go (no-room h g r) = ap (λ (y : Size). fitted y room) (shown-below x h g)
+    go (fits h g r) = ap (λ (y : Size). fitted y room) (shown-below x h g)
+
+-- what an acceptance says
+pub record Below (x : Size) (n : ℕ) : Type 0 where
+  pub clauses : x .clauses < clauseCeiling
+  pub same : shown x ≡ x
+  pub room : bytesFor x ≤ n
+
+pub fitted-below : (x : Size) (room : ℕ) → refuses (fitted x room) ≡ false → Below x room
+fitted-below x room e = go (case x room)
+  where
+    never : (a : Answer) → fitted x room ≡ a → refuses a ≡ true → ⊥
+    never a f g = let h = ap refuses f in let z : _≡_ {A = ℕ} 0 1 = cc in omega arith
+
+    go : Case x room → Below x room
+    go (many-clauses h) = absurd (never Clauses (refused-clauses x room h) refl)
+    go (many-literals h g) = absurd (never Literals (refused-literals x room h g) refl)
+    go (no-room h g r) = absurd (never Room (rw (lt-ltb (x .clauses) clauseCeiling h, lt-ltb (x .literals) literalCeiling g, lt-ltb room (bytesFor x) r)) refl)
+    go (fits h g r) = record { clauses = h; same = shown-below x h g; room = r }
 
 -- the bytes of the output
 pub length-bytes : (cs : List Clause) → length (clausesBytes cs) ≡ bytesFor (sizeOf cs)
 length-bytes [] = refl
 length-bytes (c ∷ cs) = length-append (clauseBytes c) (clausesBytes cs) ∙ omega (arith, length-clause c, length-bytes cs)
 
-module _ (v : ℕ) (s : List ℕ) (ns : List Node) where
-  pub totals-are : totals 0 s ns ≡ shown (sizeOf (outputOf v s ns))
-  totals-are = totals-options 0 v s ns ∙ totals-output v s ns
-
-  -- a clause total below its ceiling is the number of clauses
-  pub clauses-are : (sum : Size) → sum ≡ totals 0 s ns → length (outputOf v s ns) < clauseCeiling → sum .clauses ≡ length (outputOf v s ns)
-  clauses-are sum e h = ap (λ (x : Size). x .clauses) (e ∙ totals-are) ∙ omega arith
+-- refusals 5, 6 and 7 in a row are 5 and 6, and then bytes that are stored where there is room
+pub fitted-stored : (x : Size) (a : Answer) (bytes before : List ℕ) → length bytes ≡ bytesFor x
+    → afterwards (fitted x (length before)) before (record { answer = a; output = splice before 0 bytes })
+    ≡ afterwards (ceilings x) before (stored a bytes before)
+fitted-stored x a bytes before e = go (ceilings x)
+  where
+    go : (c : Answer)
+        → afterwards (cond (refuses c) c (cond (ltb (length before) (bytesFor x)) Room (Accepted 0 0))) before (record { answer = a; output = splice before 0 bytes })
+        ≡ afterwards c before (stored a bytes before)
+    go c = at (refuses c) refl
+      where
+        at : (b : Bool) → refuses c ≡ b
+            → afterwards (cond b c (cond (ltb (length before) (bytesFor x)) Room (Accepted 0 0))) before (record { answer = a; output = splice before 0 bytes })
+            ≡ cond b (record { answer = c; output = before }) (stored a bytes before)
+        at true f = rw f
+        at false f = ap (λ (n : ℕ). afterwards (cond (ltb (length before) n) Room (Accepted 0 0)) before (record { answer = a; output = splice before 0 bytes })) (sym e) ∙ tested (ltb (length before) (length bytes))
+          where
+            tested : (z : Bool) → afterwards (cond z Room (Accepted 0 0)) before (record { answer = a; output = splice before 0 bytes })
+                ≡ cond z (record { answer = Room; output = before }) (record { answer = a; output = splice before 0 bytes })
+            tested true = refl
+            tested false = refl

@@ -1,185 +1,200 @@
--- The bytes of the parts: a clause with what stands around it, a part clause by clause, and the parts as the rules give them.
+-- The bytes of the parts: a clause with what stands around it, and clauses that are written run after run.
 -- Assumes nothing.
 use mathlib.Core.Path.{_≡_, refl, sym, ap, _∙_, subst}
-use mathlib.Core.Bool.{Bool, true, false, cond}
+use mathlib.Core.Bool.{Bool, true, false, cond, not}
 use mathlib.Core.List.{List, [], _∷_, _++_, map, append-assoc, append-nil}
-use Prim.Native.Nat.{ℕ, zero, suc, _+_, _*_, _-_, _^_, _<_, _≤_}
-use native.Mathlib.Nat.{not-suc-le-zero}
+use Prim.Native.Nat.{ℕ, zero, suc, _+_, _*_, _^_, _<_, _≤_}
 use native.Mathlib.Numerals.{add-one}
 use native.Mathlib.Omega.{arith}
-use lib.Dec.{eqb}
-use lib.ListN.{length, getD, take, drop, length-append, take-append-drop, length-map}
-use borrow.Author.Tests.{ne-eqb}
-use Rattle.laws.specs.Bytes.{little}
-use Rattle.laws.specs.Splices.{splice}
-use Rattle.laws.proofs.Splices.{length-splice}
-use Rattle.clausal.specs.Algebra.{joinAll}
-use Rattle.clausal.specs.Literals.{Literal, Clause, literalBytes, clauseBytes, clausesBytes}
-use Rattle.convert.specs.Lists.{literalsBytes}
-use Rattle.convert.specs.Parts.{wordBytes, closedBytes, partBytes, listIf}
-use Rattle.convert.specs.Steps.{wordOf}
-use Rattle.convert.specs.Written.{Stored}
-use Rattle.convert.proofs.Laws.Wrote.{length-literals, literals-append, stored-nothing, stored-same, stored-room, stored-then}
+use lib.Dec.{eqb, leb}
+use lib.ListN.{length, getD, take, length-append, length-map}
+use lib.Seq.{take-suc}
+use borrow.Author.Tests.{eq-eqb, ne-eqb, leb-true, leb-false}
+use denote.Ref.{RefT, at-last}
+use Rattle.laws.specs.Lists.{splice}
+use Rattle.laws.specs.Numbers.{little}
+use Rattle.clausal.specs.Literals.{Clause, literalBytes, clauseBytes, clausesBytes}
+use Rattle.convert.specs.Inner.Lists.{shownAll}
+use Rattle.convert.specs.Inner.Parts.{helperLiteral, around}
+use Rattle.convert.specs.Inner.Written.{Fits, Put}
+use Rattle.convert.proofs.Laws.Put.{put-nothing, put-run, put-as, fits-as, fits-left, fits-right, put-both, shown-append}
 
-pub length-stored : (x l m : List ℕ) (at to : ℕ) → at + length x ≤ length l → Stored x l at to m → length m ≡ length l
-length-stored x l m at to h p = ap length (p .output) ∙ length-splice l at x h
+-- the literal of a helper
+module _ (here plain : Bool) (h : ℕ) where
+  pub not-here : here ≡ false → helperLiteral here plain h ≡ []
+  not-here e = rw e
 
--- a word that is not 0 is written
-pub word-there : (word : ℕ) → ¬ (word ≡ 0) → wordBytes word ≡ little 4 word
-word-there word h = ap (λ (b : Bool). cond b [] (little 4 word)) (ne-eqb word 0 h)
+  pub no-helper : h ≡ 0 → helperLiteral here plain h ≡ []
+  no-helper e = go here (eq-eqb h 0 e)
+    where
+      go : (z : Bool) → eqb h 0 ≡ true → helperLiteral z plain h ≡ []
+      go true f = rw f
+      go false f = refl
 
-pub stored-word : (word : ℕ) (l after : List ℕ) (at : ℕ) → ¬ (word ≡ 0) → after ≡ splice l at (little 4 word) → Stored (wordBytes word) l at (at + 4) after
-stored-word word l after at h e = stored-same (wordBytes word) (little 4 word) l after at (at + 4) (word-there word h) (record { next = refl; output = e })
-
-pub stored-no-word : (word : ℕ) (l : List ℕ) (at : ℕ) → word ≡ 0 → Stored (wordBytes word) l at at l
-stored-no-word word l at e = stored-same (wordBytes word) [] l l at at (ap wordBytes e) (stored-nothing l at)
-
--- a clause with what stands around it, written in four steps
-module _ (front behind : ℕ) (c : Clause) (l : List ℕ) (at : ℕ) (room : at + length (closedBytes front behind c) ≤ length l) where
-  abbrev last : List ℕ
-  last = wordBytes behind ++ little 4 0
-
-  pub room-front : at + length (wordBytes front) ≤ length l
-  room-front = omega (arith, length-append (wordBytes front) (literalsBytes c ++ last))
-
-  module _ (a : ℕ) (m : List ℕ) (p : Stored (wordBytes front) l at a m) where
-    from-literals : a + length (literalsBytes c ++ last) ≤ length m
-    from-literals = stored-room (wordBytes front) (literalsBytes c ++ last) l at a m room p
-
-    pub room-literals : a + 4 * length c ≤ length m
-    room-literals = omega (arith, from-literals, length-append (literalsBytes c) last, length-literals c)
-
-    module _ (b : ℕ) (n : List ℕ) (q : Stored (literalsBytes c) m a b n) where
-      from-behind : b + length last ≤ length n
-      from-behind = stored-room (literalsBytes c) last m a b n from-literals q
-
-      pub room-behind : b + length (wordBytes behind) ≤ length n
-      room-behind = omega (arith, from-behind, length-append (wordBytes behind) (little 4 0))
-
-      module _ (d : ℕ) (o : List ℕ) (r : Stored (wordBytes behind) n b d o) where
-        pub room-zero : d + 4 ≤ length o
-        room-zero = stored-room (wordBytes behind) (little 4 0) n b d o from-behind r
-
-        pub length-zero : length o ≡ length l
-        length-zero =
-            length-stored (wordBytes behind) n o b d room-behind r
-            ∙ length-stored (literalsBytes c) m n a b (omega (arith, room-literals, length-literals c)) q
-            ∙ length-stored (wordBytes front) l m at a room-front p
-
-        pub stored-closed : (after : List ℕ) → after ≡ splice o d (little 4 0) → Stored (closedBytes front behind c) l at (d + 4) after
-        stored-closed after e =
-            stored-then (wordBytes front) (literalsBytes c ++ last) l at a m room p (d + 4) after
-            (stored-then (literalsBytes c) last m a b n from-literals q (d + 4) after
-            (stored-then (wordBytes behind) (little 4 0) n b d o from-behind r (d + 4) after (record { next = refl; output = e })))
-
-module _ (front behind : ℕ) where
-  part-append : (cs ds : List Clause) → partBytes front behind (cs ++ ds) ≡ partBytes front behind cs ++ partBytes front behind ds
-  part-append [] ds = refl
-  part-append (c ∷ cs) ds =
-      ap (λ (r : List ℕ). closedBytes front behind c ++ r) (part-append cs ds)
-      ∙ sym (append-assoc (closedBytes front behind c) (partBytes front behind cs) (partBytes front behind ds))
-
-  part-next : (cs : List Clause) (k : ℕ) → k < length cs
-      → partBytes front behind (take (suc k) cs) ≡ partBytes front behind (take k cs) ++ closedBytes front behind (getD cs k [])
-  part-next [] k h = absurd (not-suc-le-zero h)
-  part-next (c ∷ cs) zero h = append-nil (closedBytes front behind c)
-  part-next (c ∷ cs) (suc k) h =
-      ap (λ (r : List ℕ). closedBytes front behind c ++ r) (part-next cs k (omega arith))
-      ∙ sym (append-assoc (closedBytes front behind c) (partBytes front behind (take k cs)) (closedBytes front behind (getD cs k [])))
-
-  part-most : (cs : List Clause) (k : ℕ) → length (partBytes front behind (take k cs)) ≤ length (partBytes front behind cs)
-  part-most cs k =
-      omega (
-        arith,
-        ap (λ (ds : List Clause). length (partBytes front behind ds)) (take-append-drop k cs),
-        ap length (part-append (take k cs) (drop k cs)),
-        length-append (partBytes front behind (take k cs)) (partBytes front behind (drop k cs)),
-      )
-
-  pub length-part : (cs : List Clause) (k : ℕ) (l m : List ℕ) (at to : ℕ) → at + length (partBytes front behind cs) ≤ length l
-      → Stored (partBytes front behind (take k cs)) l at to m → length m ≡ length l
-  length-part cs k l m at to h p = length-stored (partBytes front behind (take k cs)) l m at to (omega (arith, part-most cs k)) p
-
-  -- one clause more of a part
-  module _ (cs : List Clause) (l : List ℕ) (at : ℕ) (room : at + length (partBytes front behind cs) ≤ length l) (k : ℕ) (h : k < length cs)
-      (next : ℕ) (m : List ℕ) (p : Stored (partBytes front behind (take k cs)) l at next m) where
-    both : at + length (partBytes front behind (take k cs) ++ closedBytes front behind (getD cs k [])) ≤ length l
-    both = omega (arith, ap length (part-next cs k h), part-most cs (suc k))
-
-    pub room-clause : next + length (closedBytes front behind (getD cs k [])) ≤ length m
-    room-clause = stored-room (partBytes front behind (take k cs)) (closedBytes front behind (getD cs k [])) l at next m both p
-
-    pub stored-clause : (to : ℕ) (after : List ℕ) → Stored (closedBytes front behind (getD cs k [])) m next to after → Stored (partBytes front behind (take (k + 1) cs)) l at to after
-    stored-clause to after q =
-        stored-same (partBytes front behind (take (k + 1) cs)) (partBytes front behind (take k cs) ++ closedBytes front behind (getD cs k [])) l after at to
-        (ap (λ (j : ℕ). partBytes front behind (take j cs)) (add-one k) ∙ part-next cs k h)
-        (stored-then (partBytes front behind (take k cs)) (closedBytes front behind (getD cs k [])) l at next m both p to after q)
-
--- a clause number of a part that is there
-pub list-there : (has : Bool) (cs : List Clause) (k : ℕ) → k < length (listIf has cs) → listIf has cs ≡ cs
-list-there true cs k h = refl
-list-there false cs k h = absurd (not-suc-le-zero h)
+  pub helper-here : here ≡ true → ¬ (h ≡ 0) → helperLiteral here plain h ≡ record { plain = plain; variable = h } ∷ []
+  helper-here e d = rw (e, ne-eqb h 0 d)
 
 -- the bytes of a clause are its literals' and the closing zero
-clause-closed : (c : Clause) → clauseBytes c ≡ literalsBytes c ++ little 4 0
+clause-closed : (c : Clause) → clauseBytes c ≡ shownAll literalBytes c ++ little 4 0
 clause-closed [] = refl
-clause-closed (l ∷ c) = ap (λ (r : List ℕ). literalBytes l ++ r) (clause-closed c) ∙ sym (append-assoc (literalBytes l) (literalsBytes c) (little 4 0))
+clause-closed (l ∷ c) =
+    ap (λ (r : List ℕ). literalBytes l ++ r) (clause-closed c)
+    ∙ sym (append-assoc (literalBytes l) (shownAll literalBytes c) (little 4 0))
 
--- literals around each clause of a list
-abbrev around : Clause → Clause → List Clause → List Clause
-around before after cs = map (λ c. before ++ (c ++ after)) cs
-
-module _ (front behind : ℕ) (before after : Clause) (e : wordBytes front ≡ literalsBytes before) (f : wordBytes behind ≡ literalsBytes after) where
-  closed-around : (c : Clause) → closedBytes front behind c ≡ clauseBytes (before ++ (c ++ after))
-  closed-around c =
-      (λ i. e i ++ (literalsBytes c ++ (f i ++ little 4 0)))
-      ∙ sym
-      (clause-closed (before ++ (c ++ after))
-      ∙ ap (λ (r : List ℕ). r ++ little 4 0) (literals-append before (c ++ after) ∙ ap (λ (r : List ℕ). literalsBytes before ++ r) (literals-append c after))
-      ∙ append-assoc (literalsBytes before) (literalsBytes c ++ literalsBytes after) (little 4 0)
-      ∙ ap (λ (r : List ℕ). literalsBytes before ++ r) (append-assoc (literalsBytes c) (literalsBytes after) (little 4 0)))
-
-  part-around : (cs : List Clause) → partBytes front behind cs ≡ clausesBytes (around before after cs)
-  part-around [] = refl
-  part-around (c ∷ cs) = λ i. closed-around c i ++ part-around cs i
-
--- the root's clauses stand alone
-root-around : (cs : List Clause) → around [] [] cs ≡ cs
-root-around [] = refl
-root-around (c ∷ cs) = λ i. append-nil c i ∷ root-around cs i
-
-pub root-bytes : (cs : List Clause) → partBytes 0 0 cs ≡ clausesBytes cs
-root-bytes cs = part-around 0 0 [] [] refl refl cs ∙ ap clausesBytes (root-around cs)
-
--- "the join of -h with its P", and "the join of its N with h"
-abbrev literal : Bool → ℕ → Literal
-literal plain x = record { plain = plain; variable = x }
-
-down-around : (l : Literal) (cs : List Clause) → around (l ∷ []) [] cs ≡ joinAll ((l ∷ []) ∷ []) cs
-down-around l cs = go cs ∙ sym (append-nil (map (λ d. (l ∷ []) ++ d) cs))
-  where
-    go : (cs : List Clause) → around (l ∷ []) [] cs ≡ map (λ d. (l ∷ []) ++ d) cs
-    go [] = refl
-    go (c ∷ cs) = λ i. (l ∷ append-nil c i) ∷ go cs i
-
-up-around : (l : Literal) (cs : List Clause) → around [] (l ∷ []) cs ≡ joinAll cs ((l ∷ []) ∷ [])
-up-around l [] = refl
-up-around l (c ∷ cs) = ap (λ (r : List Clause). (c ++ (l ∷ [])) ∷ r) (up-around l cs)
-
-word-literal : (plain : Bool) (h : ℕ) → 0 < h → h < 2 ^ 32 → wordBytes (wordOf plain h) ≡ literalsBytes (literal plain h ∷ [])
-word-literal true h p q = word-there h (λ e. omega arith) ∙ sym (append-nil (literalBytes (literal true h)))
-word-literal false h p q = word-there (2 ^ 32 - h) (λ e. omega arith) ∙ sym (append-nil (literalBytes (literal false h)))
-
-pub down-bytes : (h : ℕ) (cs : List Clause) → 0 < h → h < 2 ^ 32 → partBytes (wordOf false h) 0 cs ≡ clausesBytes (joinAll ((literal false h ∷ []) ∷ []) cs)
-down-bytes h cs p q = part-around (wordOf false h) 0 (literal false h ∷ []) [] (word-literal false h p q) refl cs ∙ ap clausesBytes (down-around (literal false h) cs)
-
-pub up-bytes : (h : ℕ) (cs : List Clause) → 0 < h → h < 2 ^ 32 → partBytes 0 (wordOf true h) cs ≡ clausesBytes (joinAll cs ((literal true h ∷ []) ∷ []))
-up-bytes h cs p q = part-around 0 (wordOf true h) [] (literal true h ∷ []) refl (word-literal true h p q) cs ∙ ap clausesBytes (up-around (literal true h) cs)
-
--- bytes of one list of clauses behind another, and how many there are
-pub clauses-append : (cs ds : List Clause) → clausesBytes (cs ++ ds) ≡ clausesBytes cs ++ clausesBytes ds
-clauses-append [] ds = refl
-clauses-append (c ∷ cs) ds = ap (λ (r : List ℕ). clauseBytes c ++ r) (clauses-append cs ds) ∙ sym (append-assoc (clauseBytes c) (clausesBytes cs) (clausesBytes ds))
+shown-length : (c : Clause) → length (shownAll literalBytes c) ≡ 4 * length c
+shown-length [] = refl
+shown-length (l ∷ c) = length-append (literalBytes l) (shownAll literalBytes c) ∙ omega (arith, shown-length c)
 
 pub length-clause : (c : Clause) → length (clauseBytes c) ≡ 4 * length c + 4
-length-clause c = ap length (clause-closed c) ∙ length-append (literalsBytes c) (little 4 0) ∙ omega (arith, length-literals c)
+length-clause c =
+    ap length (clause-closed c) ∙ length-append (shownAll literalBytes c) (little 4 0) ∙ omega (arith, shown-length c)
+
+-- a clause with the literal of a helper around it, written in four runs
+module _ (h : ℕ) (sign : Bool) (c : Clause) (r : RefT (List ℕ)) (at : ℕ) (fits : Fits (clauseBytes (around h sign c)) (r .now) at) where
+  abbrev before : Clause
+  before = helperLiteral sign false h
+
+  abbrev after : Clause
+  after = helperLiteral (not sign) true h
+
+  abbrev front : List ℕ
+  front = shownAll literalBytes before
+
+  abbrev own : List ℕ
+  own = shownAll literalBytes c
+
+  abbrev behind : List ℕ
+  behind = shownAll literalBytes after
+
+  runs : clauseBytes (around h sign c) ≡ front ++ (own ++ (behind ++ little 4 0))
+  runs =
+      clause-closed (before ++ (c ++ after))
+      ∙ ap (λ (x : List ℕ). x ++ little 4 0)
+      (shown-append literalBytes before (c ++ after) ∙ ap (λ (x : List ℕ). front ++ x) (shown-append literalBytes c after))
+      ∙ append-assoc front (own ++ behind) (little 4 0)
+      ∙ ap (λ (x : List ℕ). front ++ x) (append-assoc own behind (little 4 0))
+
+  all : Fits (front ++ (own ++ (behind ++ little 4 0))) (r .now) at
+  all = fits-as (sym runs) fits
+
+  pub fits-front : Fits front (r .now) at
+  fits-front = fits-left front (own ++ (behind ++ little 4 0)) r at all
+
+  module _ (a : ℕ) (m : RefT (List ℕ)) (p : Put front r at a m) where
+    rest : Fits (own ++ (behind ++ little 4 0)) (m .now) a
+    rest = fits-right front (own ++ (behind ++ little 4 0)) r at all p
+
+    pub fits-own : Fits own (m .now) a
+    fits-own = fits-left own (behind ++ little 4 0) m a rest
+
+    module _ (b : ℕ) (n : RefT (List ℕ)) (q : Put own m a b n) where
+      last : Fits (behind ++ little 4 0) (n .now) b
+      last = fits-right own (behind ++ little 4 0) m a rest q
+
+      pub fits-behind : Fits behind (n .now) b
+      fits-behind = fits-left behind (little 4 0) n b last
+
+      module _ (d : ℕ) (o : RefT (List ℕ)) (s : Put behind n b d o) where
+        zero-fits : Fits (little 4 0) (o .now) d
+        zero-fits = fits-right behind (little 4 0) n b last s
+
+        pub room-zero : d + 4 ≤ length (o .now)
+        room-zero = zero-fits .room
+
+        pub end-zero : d + 4 < 2 ^ 64
+        end-zero = omega (arith, zero-fits .room, zero-fits .most)
+
+        pub put-closed : (l : List ℕ) → l ≡ splice (o .now) d (little 4 0) → Put (clauseBytes (around h sign c)) r at (d + 4) (at-last o l)
+        put-closed l e =
+            put-as runs
+            (put-both front (own ++ (behind ++ little 4 0)) r at all p
+            (put-both own (behind ++ little 4 0) m a rest q
+            (put-both behind (little 4 0) n b last s (put-run (little 4 0) o d (d + 4) l refl e))))
+
+-- bytes of one list of clauses behind another
+pub clauses-append : (cs ds : List Clause) → clausesBytes (cs ++ ds) ≡ clausesBytes cs ++ clausesBytes ds
+clauses-append [] ds = refl
+clauses-append (c ∷ cs) ds =
+    ap (λ (r : List ℕ). clauseBytes c ++ r) (clauses-append cs ds)
+    ∙ sym (append-assoc (clauseBytes c) (clausesBytes cs) (clausesBytes ds))
+
+-- what stands behind the first clauses
+record Behind (first whole : List Clause) : Type 0 where
+  rest : List Clause
+  split : whole ≡ first ++ rest
+
+-- a loop that writes run after run: k runs are `first k`, and the next one is `next k`
+module _ (first next : ℕ → List Clause) (n : ℕ) (more : (k : ℕ) → k < n → first (suc k) ≡ first k ++ next k) where
+  behind-first : (m k : ℕ) → m ≤ n → k ≤ m → Behind (first k) (first m)
+  behind-first zero k h g =
+      let e : k ≡ 0 = omega arith in
+      record { rest = []; split = ap first (sym e) ∙ sym (append-nil (first k)) }
+  behind-first (suc m) k h g = go (leb k m) refl (behind-first m k (omega arith))
+    where
+      go : (b : Bool) → leb k m ≡ b → (k ≤ m → Behind (first k) (first m)) → Behind (first k) (first (suc m))
+      go true e ih =
+          let r = ih (leb-true k m e) in
+          record {
+            rest = r .rest ++ next m;
+            split = more m h ∙ ap (λ (x : List Clause). x ++ next m) (r .split) ∙ append-assoc (first k) (r .rest) (next m);
+          }
+      go false e ih =
+          let q : k ≡ suc m = omega (arith, leb-false k m e) in
+          record { rest = []; split = ap first (sym q) ∙ sym (append-nil (first k)) }
+
+  module _ (k : ℕ) (h : k < n) where
+    -- the next run, and what stands behind it
+    after-next : Behind (first (suc k)) (first n)
+    after-next = behind-first n (suc k) (omega arith) h
+
+    whole : first n ≡ first k ++ (next k ++ after-next .rest)
+    whole =
+        after-next .split
+        ∙ ap (λ (x : List Clause). x ++ after-next .rest) (more k h)
+        ∙ append-assoc (first k) (next k) (after-next .rest)
+
+    pub short-next : (most : ℕ) → length (first n) < most → length (next k) < most
+    short-next most l =
+        omega (arith, ap length whole, length-append (first k) (next k ++ after-next .rest), length-append (next k) (after-next .rest))
+
+    module _ (r : RefT (List ℕ)) (at : ℕ) (fits : Fits (clausesBytes (first n)) (r .now) at) (to : ℕ) (m : RefT (List ℕ))
+        (p : Put (clausesBytes (first k)) r at to m) where
+      abbrev now : List ℕ
+      now = clausesBytes (next k)
+
+      abbrev later : List ℕ
+      later = clausesBytes (after-next .rest)
+
+      runs-whole : clausesBytes (first n) ≡ clausesBytes (first k) ++ (now ++ later)
+      runs-whole =
+          ap clausesBytes whole
+          ∙ clauses-append (first k) (next k ++ after-next .rest)
+          ∙ ap (λ (x : List ℕ). clausesBytes (first k) ++ x) (clauses-append (next k) (after-next .rest))
+
+      both : Fits (clausesBytes (first k) ++ (now ++ later)) (r .now) at
+      both = fits-as (sym runs-whole) fits
+
+      pub fits-next : Fits now (m .now) to
+      fits-next = fits-left now later m to (fits-right (clausesBytes (first k)) (now ++ later) r at both p)
+
+      pub put-next : (q : ℕ) (o : RefT (List ℕ)) → Put now m to q o → Put (clausesBytes (first (k + 1))) r at q o
+      put-next q o s =
+          let firsts : Fits ((clausesBytes (first k) ++ now) ++ later) (r .now) at =
+          fits-as (append-assoc (clausesBytes (first k)) now later) both in
+          put-as (ap (λ (j : ℕ). clausesBytes (first j)) (add-one k) ∙ ap clausesBytes (more k h) ∙ clauses-append (first k) (next k))
+          (put-both (clausesBytes (first k)) now r at (fits-left (clausesBytes (first k) ++ now) later r at firsts) p s)
+
+-- the clauses of a list, one by one
+module _ (f : Clause → Clause) (cs : List Clause) where
+  abbrev pub firstOf : ℕ → List Clause
+  firstOf k = map f (take k cs)
+
+  abbrev pub nextOf : ℕ → List Clause
+  nextOf k = f (getD cs k []) ∷ []
+
+  map-append : (xs : List Clause) (y : Clause) → map f (xs ++ (y ∷ [])) ≡ map f xs ++ (f y ∷ [])
+  map-append [] y = refl
+  map-append (x ∷ xs) y = ap (λ (l : List Clause). f x ∷ l) (map-append xs y)
+
+  pub one-more : (k : ℕ) → k < length cs → firstOf (suc k) ≡ firstOf k ++ nextOf k
+  one-more k h = ap (map f) (take-suc cs k [] h) ∙ map-append (take k cs) (getD cs k [])

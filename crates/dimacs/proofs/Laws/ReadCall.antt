@@ -1,68 +1,113 @@
 -- What the reading call gives, in each of its cases.
 -- Assumes nothing.
-use mathlib.Core.Path.{_≡_, refl, sym, ap, _∙_, subst}
+use mathlib.Core.Path.{_≡_, refl, sym, ap, subst, _∙_}
 use mathlib.Core.Bool.{true, false}
 use mathlib.Core.List.{List, [], _∷_}
-use Prim.Native.Nat.{ℕ, _+_, _*_, _≤_, _<_}
+use Prim.Native.Nat.{ℕ, _≤_, _<_}
 use native.Mathlib.Omega.{arith}
-use lib.Dec.{T}
-use lib.ListN.{length}
+use lib.ListN.{length, drop}
+use Rattle.laws.specs.Lists.{splice}
 use Rattle.laws.specs.Automata.{output}
-use Rattle.laws.specs.Splices.{splice}
+use Rattle.laws.proofs.Stored.{stored-nothing}
+use Rattle.text.specs.Inner.Heads.{isDone, headOf}
+use Rattle.text.specs.declared.head.Head.{Head}
+use Rattle.answer.specs.Part.{stored}
 use Rattle.answer.specs.declared.Answer.the-variants.{Accepted, Room, Text}
-use Rattle.dimacs.specs.Clauses.{literalCount}
-use Rattle.dimacs.specs.States.{startOf, stepOf}
-use Rattle.dimacs.specs.Reader.{readState, readBytes, accepts, putsFor, bytesFor}
+use Rattle.answer.proofs.Laws.Part.{stored-short, stored-fits}
+use Rattle.clausebytes.specs.Words.{roomOf}
+use Rattle.clausebytes.proofs.Encoded.{length-clauses}
+use Rattle.dimacs.specs.Grammar.{cnf}
+use Rattle.dimacs.specs.Inner.States.{startOf, accepts, stepOf, stateFrom, bytesFrom, putsFor, writtenFrom, Walking, Walked}
 use Rattle.dimacs.specs.Calls.{readCall}
 use Rattle.dimacs.specs.declared.state.State.{State}
-use Rattle.dimacs.proofs.Laws.Ends.{Seen}
-use Rattle.dimacs.proofs.Laws.Sizes.{length-clauses}
-use Rattle.dimacs.proofs.Laws.SoundText.{text-sound}
-use Rattle.dimacs.proofs.Laws.WholeText.{text-whole}
-use Rattle.dimacs.proofs.Laws.WriteCall.{room-wanted, room-given}
+use Rattle.dimacs.proofs.Laws.Texts.{body-of-text, text-of-body}
 
--- the size that the totals tell
-pub read-size : (t : List ℕ) → T (accepts (readState t)) → length (readBytes t) ≡ 4 * (readState t .literals + readState t .clauses)
-read-size t h =
-    let a = text-sound t h in
-    let w = text-whole (a .2) in
-    let n : readState t .literals ≡ literalCount (a .1) = ap (λ (s : Seen). s .literals) (w .0) in
-    let k : readState t .clauses ≡ length (a .1) = ap (λ (s : Seen). s .clauses) (w .0) in
-    ap length (w .1) ∙ length-clauses (a .1) ∙ omega arith
+-- the state behind a head, and at the end of the text
+abbrev pub startAt : Head → State
+startAt h = startOf (h .place) (h .before) (h .value)
 
-module _ (t buffer : List ℕ) (s : State) (e : s ≡ readState t) where
-  pub read-refused : accepts s ≡ false → record { answer = Text (s .place); output = buffer } ≡ readCall t buffer
-  read-refused h =
-      let g : accepts (readState t) ≡ false = ap accepts (sym e) ∙ h in
-      rw g (ap (λ (x : State). record { answer = Text (x .place); output = buffer }) e)
+abbrev pub endAt : Head → List ℕ → State
+endAt h t = stateFrom (startAt h) t (h .place)
 
-  module _ (h : accepts s ≡ true) where
-    right : accepts (readState t) ≡ true
-    right = ap accepts (sym e) ∙ h
+abbrev pub bytesAt : Head → List ℕ → List ℕ
+bytesAt h t = bytesFrom (startAt h) t (h .place)
 
-    size : length (readBytes t) ≡ 4 * (s .literals + s .clauses)
-    size = read-size t (subst T (sym right) tt) ∙ ap (λ (x : State). 4 * (x .literals + x .clauses)) (sym e)
+module _ (t buffer : List ℕ) {h : Head} (g : h ≡ headOf cnf t) where
+  pub read-headless : isDone (h .phase) ≡ false → record { answer = Text (h .place); output = buffer } ≡ readCall t buffer
+  read-headless =
+      subst (λ (x : Head). isDone (x .phase) ≡ false → record { answer = Text (x .place); output = buffer } ≡ readCall t buffer) (sym g)
+      (λ e. rw e)
 
-    pub read-no-room : length buffer < 4 * (s .literals + s .clauses) → record { answer = Room; output = buffer } ≡ readCall t buffer
-    read-no-room g = rw right (room-wanted (readState t .variables) (readState t .declared) (readBytes t) buffer (omega (arith, size)))
+-- a reading that does not write leaves the buffer alone
+nothing-put : (s : State) (xs : List ℕ) → output stepOf (putsFor false) s xs ≡ []
+nothing-put s [] = refl
+nothing-put s (b ∷ xs) = nothing-put (stepOf s b) xs
 
-    pub read-fits : 4 * (s .literals + s .clauses) ≤ length buffer → length (readBytes t) ≤ length buffer
-    read-fits g = omega (arith, size)
+pub nothing-written : (s : State) (t : List ℕ) (from : ℕ) → writtenFrom false s t from ≡ []
+nothing-written s t from = nothing-put s (drop from t)
 
-    pub read-done : (after : List ℕ) → 4 * (s .literals + s .clauses) ≤ length buffer → after ≡ splice buffer 0 (readBytes t)
-        → record { answer = Accepted (s .variables) (s .declared); output = after } ≡ readCall t buffer
-    read-done after g f =
-        rw right
-        ((λ i. record { answer = Accepted (e i .variables) (e i .declared); output = f i })
-        ∙ room-given (readState t .variables) (readState t .declared) (readBytes t) buffer (read-fits g))
+-- What is known after the head and the first reading of what follows: it started in s, it ended in e, and it left the buffer as `left`.
+pub record Seen (t buffer : List ℕ) (h : Head) (s e : State) (left : List ℕ) : Type 0 where
+  pub head : h ≡ headOf cnf t
+  pub done : isDone (h .phase) ≡ true
+  pub start : s ≡ startAt h
+  pub walked : Walked t (h .place) s false buffer e left
 
--- a reading that does not write puts nothing out, and leaves the buffer alone
-quiet : (s : State) (t : List ℕ) → output stepOf (putsFor false) s t ≡ []
-quiet s [] = refl
-quiet s (b ∷ t) = quiet (stepOf s b) t
+module _ {t buffer : List ℕ} {h : Head} {s e : State} {left : List ℕ} (k : Seen t buffer h s e left) where
+  left-same : left ≡ buffer
+  left-same =
+      k .walked .bytes
+      ∙ ap (splice buffer 0) (nothing-written s t (h .place))
+      ∙ sym (stored-nothing buffer 0 .list)
 
-pub unwritten-fits : (t buffer : List ℕ) → length (bytesFor false t) ≤ length buffer
-unwritten-fits t buffer = rw (quiet startOf t) (omega arith)
+  done : isDone (headOf cnf t .phase) ≡ true
+  done = ap (λ (x : Head). isDone (x .phase)) (sym (k .head)) ∙ k .done
 
-pub unwritten : (t buffer : List ℕ) → splice buffer 0 (bytesFor false t) ≡ buffer
-unwritten t buffer = ap (splice buffer 0) (quiet startOf t)
+  end-is : e ≡ endAt (headOf cnf t) t
+  end-is = k .walked .state ∙ ap (λ (x : State). stateFrom x t (h .place)) (k .start) ∙ ap (λ (x : Head). endAt x t) (k .head)
+
+  pub read-refused : accepts e ≡ false → record { answer = Text (e .place); output = left } ≡ readCall t buffer
+  read-refused f =
+      let n : accepts (endAt (headOf cnf t) t) ≡ false = ap accepts (sym end-is) ∙ f in
+      (λ i. record { answer = Text (end-is i .place); output = left-same i }) ∙ rw (done, n)
+
+  module _ (f : accepts e ≡ true) where
+    accepted : accepts (endAt (headOf cnf t) t) ≡ true
+    accepted = ap accepts (sym end-is) ∙ f
+
+    read-stored : stored (Accepted (h .before) (h .value)) (bytesAt (headOf cnf t) t) buffer ≡ readCall t buffer
+    read-stored = (λ i. stored (Accepted (k .head i .before) (k .head i .value)) (bytesAt (headOf cnf t) t) buffer) ∙ rw (done, accepted)
+
+    -- the size that the totals tell
+    size : length (bytesAt (headOf cnf t) t) ≡ roomOf (h .value) (e .literals)
+    size =
+        let a = text-of-body t done accepted in
+        let w = body-of-text t done (headOf cnf t .before) (a .0) (a .1) in
+        ap length (sym (w .1))
+        ∙ length-clauses (a .0)
+        ∙ (λ i. roomOf (sym (w .4) i) (sym (w .2) i))
+        ∙ sym (λ i. roomOf (k .head i .value) (end-is i .literals))
+
+    pub read-no-room : length left < roomOf (h .value) (e .literals) → record { answer = Room; output = left } ≡ readCall t buffer
+    read-no-room n =
+        ap (λ (l : List ℕ). record { answer = Room; output = l }) left-same
+        ∙ stored-short (Accepted (h .before) (h .value)) (bytesAt (headOf cnf t) t) buffer (omega (arith, size, ap length left-same))
+        ∙ read-stored
+
+    -- there is room: the second reading writes
+    module _ (n : roomOf (h .value) (e .literals) ≤ length left) where
+      bytes-are : writtenFrom true s t (h .place) ≡ bytesAt (headOf cnf t) t
+      bytes-are = ap (λ (x : State). bytesFrom x t (h .place)) (k .start) ∙ ap (λ (x : Head). bytesAt x t) (k .head)
+
+      pub read-room : Walking t (h .place) s true left
+      read-room = record {
+        place = omega (arith, ap (λ (x : State). x .place) (k .start));
+        room = omega (arith, ap length bytes-are, size);
+      }
+
+      pub read-accepted : {r : State} {after : List ℕ} → Walked t (h .place) s true left r after
+          → record { answer = Accepted (h .before) (h .value); output = after } ≡ readCall t buffer
+      read-accepted {after = after} w =
+          stored-fits (Accepted (h .before) (h .value)) (bytesAt (headOf cnf t) t) buffer after (omega (arith, size, ap length left-same))
+          (w .bytes ∙ (λ i. splice (left-same i) 0 (bytes-are i)))
+          ∙ read-stored

@@ -1,85 +1,118 @@
--- `dimacs::read` meets its contract: what the first reading ends in decides: refusal 8, refusal 7, or the reading that writes. Assumes nothing.
+-- `dimacs::read` meets its contract: refusal 8 at the head's place or at the body's, refusal 7, or the clause bytes. Assumes nothing.
 use mathlib.Core.Path.{_≡_, sym, ap, _∙_}
-use mathlib.Core.Bool.{true, false}
+use mathlib.Core.Bool.{true}
 use mathlib.Core.List.{List}
 use Prim.Native.Nat.{ℕ, _≤_}
 use native.Mathlib.Omega.{arith}
 use borrow.Author.Needs.{needs}
 use borrow.Author.Tests.{not-true, not-false}
 use lib.ListN.{length}
-use Rattle.laws.specs.Splices.{splice}
-use Rattle.answer.specs.declared.Answer.the-variants.{Room, Text}
-use Rattle.dimacs.specs.Reader.{accepts, readBytes}
-use Rattle.dimacs.proofs.Laws.ReadCall.{read-refused, read-no-room, read-fits, read-done, unwritten-fits, unwritten}
+use Rattle.text.specs.Inner.Heads.{headOf}
+use Rattle.clausebytes.specs.Words.{roomOf}
+use Rattle.dimacs.specs.Grammar.{cnf}
+use Rattle.dimacs.specs.Inner.States.{accepts}
+use Rattle.dimacs.specs.declared.state.State.{State}
+use Rattle.dimacs.proofs.Laws.ReadCall.{Seen, read-headless, nothing-written, read-refused, read-no-room, read-room, read-accepted}
 use Rattle.dimacs.proofs.read.Statement.{statement}
 use Rattle.dimacs.proofs.read.Tie as tie
 
--- the first reading leaves the buffer alone
-kept : (c : tie.After-walk) → c .walk .last .1 .1 .0 ≡ c .before .before .before .before .args .clauses .now
-kept c =
-    let x = c .before .before .before .before .args in
-    c .walk .ensures .1 ∙ unwritten (x .text .now) (x .clauses .now)
+-- the text, the buffer, and the head that was found
+abbrev start-of : tie.After-read → tie.Start
+start-of c = c .before .before .before .before
 
-abbrev first : tie.After-is-accepted → tie.After-walk
-first c = c .before .before .before
+abbrev text-of : tie.After-read → List ℕ
+text-of c = start-of c .args .text .now
 
--- accepted
-accepted : (c : tie.Else1) → accepts (first (c .before) .walk .result) ≡ true
-accepted c = sym (c .before .is-accepted .ensures) ∙ not-false _ (c .if1 .left)
+abbrev buffer-of : tie.After-read → List ℕ
+buffer-of c = start-of c .args .clauses .now
+
+head : (c : tie.After-read) → c .read .result ≡ headOf cnf (text-of c)
+head c = c .read .ensures ∙ ap (λ f. headOf f (text-of c)) (c .before .cnf-form .ensures)
 
 returns : tie.Need-returns
 returns c =
-    let walk = first (c .before) in
-    let x = walk .before .before .before .before .args in
-    let refused : accepts (walk .walk .result) ≡ false = sym (c .before .is-accepted .ensures) ∙ not-true _ (c .if1 .taken) in
-    (λ i. record { answer = Text (walk .walk .result .place); output = kept walk i })
-    ∙ read-refused (x .text .now) (x .clauses .now) (walk .walk .result) (walk .walk .ensures .0) refused
+    let r = c .before .before in
+    read-headless (text-of r) (buffer-of r) (head r)
+    (sym (c .before .is-done .ensures) ∙ not-true (c .before .is-done .result) (c .if1 .taken))
+
+-- it is done: the first reading of what follows
+abbrev read-of : tie.After-walk → tie.After-read
+read-of c = let start = c .before .before in start .before .before .before
+
+abbrev left-of : tie.After-walk → List ℕ
+left-of c = c .walk .last .1 .1 .1 .1 .0
+
+walk-requires : tie.Need-walk-requires
+walk-requires c κs =
+    let r = c .before .before .before .before in
+    record {
+      place = omega (arith, ap (λ (s : State). s .place) (c .before .start .ensures));
+      room = omega (arith, ap length (nothing-written (c .before .start .result) (text-of r) (r .read .result .place)));
+    }
+
+seen : (c : tie.After-walk) → let r = read-of c in
+    Seen (text-of r) (buffer-of r) (r .read .result) (c .before .before .start .result) (c .walk .result) (left-of c)
+seen c =
+    let start = c .before .before in
+    let done = start .before .before in
+    record {
+      head = head (read-of c);
+      done = sym (done .is-done .ensures) ∙ not-false (done .is-done .result) (start .before .if1 .left);
+      start = start .start .ensures;
+      walked = c .walk .ensures;
+    }
+
+abbrev walk-of : tie.After-is-accepted → tie.After-walk
+walk-of c = c .before .before .before
 
 returns-2 : tie.Need-returns-2
 returns-2 c =
-    let else = c .before .before .before in
-    let walk = first (else .before) in
-    let x = walk .before .before .before .before .args in
-    (λ i. record { answer = Room; output = kept walk i })
-    ∙ read-no-room (x .text .now) (x .clauses .now) (walk .walk .result) (walk .walk .ensures .0) (accepted else)
-    (omega (arith, ap length (kept walk), c .if2 .taken))
+    let a = c .before in
+    read-refused (seen (walk-of a)) (sym (a .is-accepted .ensures) ∙ not-true (a .is-accepted .result) (c .if2 .taken))
 
--- the reading that writes has its room
-fits : (c : tie.Else2) → let walk = first (c .before .before .before .before) in let x = walk .before .before .before .before .args in
-    length (readBytes (x .text .now)) ≤ length (walk .walk .last .1 .1 .0)
-fits c =
-    let else = c .before .before .before in
-    let walk = first (else .before) in
-    let x = walk .before .before .before .before .args in
-    let l = ap length (kept walk) in
-    let room = read-fits (x .text .now) (x .clauses .now) (walk .walk .result) (walk .walk .ensures .0) (accepted else) (omega (arith, l, c .if2 .left)) in
-    omega (arith, l, room)
+-- it is accepted
+accepted : (c : tie.Else2) → accepts (walk-of (c .before) .walk .result) ≡ true
+accepted c = sym (c .before .is-accepted .ensures) ∙ not-false (c .before .is-accepted .result) (c .if2 .left)
 
 returns-3 : tie.Need-returns-3
 returns-3 c =
-    let second = c .before .before in
-    let room = second .before .before in
-    let else = room .before .before .before in
-    let walk = first (else .before) in
-    let x = walk .before .before .before .before .args in
-    read-done (x .text .now) (x .clauses .now) (walk .walk .result) (walk .walk .ensures .0) (accepted else) _
-    (omega (arith, ap length (kept walk), room .if2 .left))
-    (second .walk2 .ensures .1 ∙ ap (λ (l : List ℕ). splice l 0 (readBytes (x .text .now))) (kept walk))
+    let room = c .before in
+    let walk = walk-of (room .before .before) in
+    read-no-room (seen walk) (accepted (room .before)) (omega (arith, room .room .ensures, c .if3 .taken))
+
+-- there is room: the second reading
+room : (c : tie.Else3) → let walk = walk-of (c .before .before .before) in
+    roomOf (read-of walk .read .result .value) (walk .walk .result .literals) ≤ length (left-of walk)
+room c = omega (arith, c .before .room .ensures, c .if3 .left)
+
+walk-requires-2 : tie.Need-walk-requires-2
+walk-requires-2 c κs =
+    let else = c .before .before .before in
+    read-room (seen (walk-of (else .before))) (accepted else) (room (c .before))
+
+returns-4 : tie.Need-returns-4
+returns-4 c =
+    let walk2 = c .before .before in
+    let fits = walk2 .before .before in
+    let else = fits .before .before in
+    read-accepted (seen (walk-of (else .before))) (accepted else) (room fits) (walk2 .walk2 .ensures)
 
 pub read-spec : {M : Type 1} → statement M
 read-spec =
     tie.close
     (tie.spec
-    (λ c κs. let x = c .before .before .before .args in unwritten-fits (x .text .now) (x .clauses .now))
+    (λ c κs. search needs)
+    (λ c κs. search needs)
+    (λ c κs. search needs)
+    returns
+    (λ c κs. search needs)
+    walk-requires
     (λ c κs. search needs)
     (λ c. search needs)
-    returns
-    (λ c. search needs)
-    (λ c. search needs)
-    (λ c. search needs)
-    (λ c. search needs)
-    (λ c. search needs)
     returns-2
-    (λ c κs. fits (c .before))
+    (λ c κs. search needs)
     (λ c. search needs)
-    returns-3)
+    returns-3
+    walk-requires-2
+    (λ c. search needs)
+    returns-4)

@@ -9,10 +9,11 @@ use lib.Dec.{ltb}
 use lib.ListN.{length, getD, set, replicate, length-map, length-replicate, length-set, List·getD-map, replicate-append-replicate}
 use lib.Seq.{set-out}
 use borrow.Author.Tests.{ltb-true, ltb-false, lt-ltb, le-ltb}
-use Rattle.laws.specs.Arrays.{padTo}
+use Rattle.laws.specs.Lists.{padTo}
 use Rattle.laws.proofs.Arrays.{getD-pad, pad-set}
 use Rattle.formula.specs.Limits.{mostNodes}
-use Rattle.formula.specs.Marks.{unmarked, positive, joined, toA, toB, markIn, mark, passOn, rootMarked, byteOf, markBy, held, heldAt, heldMore, heldPassed}
+use Rattle.formula.specs.Marks.{unmarked, positive, joined, toA, toB, markIn, mark, passOn, rootMarked}
+use Rattle.formula.specs.Inner.Held.{byteOf, markBy, held, heldAt, heldMore, heldPassed}
 use Rattle.formula.specs.declared.mark.Mark.{Mark}
 use Rattle.formula.specs.declared.node.Node.{Node}
 

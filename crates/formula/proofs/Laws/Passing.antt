@@ -7,11 +7,12 @@ use native.Mathlib.Omega.{arith}
 use lib.ListN.{length, set, replicate, length-set, length-replicate}
 use Rattle.formula.specs.Limits.{mostNodes}
 use Rattle.formula.specs.Nodes.{nodeAt, nodeCount, nodesOf, nodeIn}
-use Rattle.formula.specs.Marks.{unmarked, positive, markIn, passOn, downFrom, rootMarked, marksOf, held, heldPassed}
-use Rattle.formula.specs.declared.mark.Mark.{Mark}
-use Rattle.formula.specs.declared.node.Node.{Node}
+use Rattle.formula.specs.Marks.{unmarked, positive, markIn, passOn, downFrom, rootMarked, marksOf}
+use Rattle.formula.specs.Inner.Held.{held, heldPassed}
 use Rattle.formula.proofs.Laws.Held.{heldPassed-held, held-root}
 use Rattle.formula.proofs.Laws.Tables.{length-nodesOf, nodeIn-nodesOf}
+use Rattle.formula.specs.declared.mark.Mark.{Mark}
+use Rattle.formula.specs.declared.node.Node.{Node}
 
 -- the array holds marks, and what is left to do with them gives the marks of all nodes
 pub record Passing (t : List ℕ) (i : ℕ) (all : List ℕ) : Type 0 where
@@ -24,11 +25,12 @@ length-passOn : (n : Node) (m : Mark) (ms : List Mark) → length (passOn n m ms
 length-passOn n m ms = simp length-set
 
 module _ (t : List ℕ) where
-  pub passing-start : 0 < nodeCount t → nodeCount t ≤ mostNodes → Passing t (nodeCount t) (set (replicate mostNodes 0) (nodeCount t - 1) 1)
-  passing-start p h = record {
+  pub passing-start : (marks : List ℕ) → marks ≡ replicate mostNodes 0 → 0 < nodeCount t → nodeCount t ≤ mostNodes
+      → Passing t (nodeCount t) (set marks (nodeCount t - 1) 1)
+  passing-start marks z p h = record {
     now = rootMarked (nodeCount t);
     size = length-set (replicate (nodeCount t) unmarked) (nodeCount t - 1) positive ∙ length-replicate (nodeCount t) unmarked;
-    is = held-root (nodeCount t) p h;
+    is = ap (λ (l : List ℕ). set l (nodeCount t - 1) 1) z ∙ held-root (nodeCount t) p h;
     rest = ap (λ (n : ℕ). downFrom (nodesOf t) n (rootMarked n)) (sym (length-nodesOf t));
   }
 
@@ -52,8 +54,3 @@ module _ (t : List ℕ) where
   pub passing-end : (all : List ℕ) → Passing t 0 all → all ≡ held (marksOf (nodesOf t))
   unfolding downFrom
   passing-end all p = p .is ∙ ap held (p .rest)
-
-  -- a table with no node has no marks
-  pub passing-none : nodeCount t ≡ 0 → replicate mostNodes 0 ≡ held (marksOf (nodesOf t))
-  unfolding downFrom
-  passing-none e = ap (λ (n : ℕ). held (downFrom (nodesOf t) n (rootMarked n))) (sym (length-nodesOf t ∙ e))

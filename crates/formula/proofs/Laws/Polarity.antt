@@ -15,13 +15,13 @@ use Rattle.formula.specs.Nodes.{nodesOf, nodeIn}
 use Rattle.formula.specs.Checks.{checked}
 use Rattle.formula.specs.Marks.{unmarked, positive, joined, turned, doubled, toA, toB, markIn, mark, passOn, downFrom, rootMarked, marksOf, markOf}
 use Rattle.formula.specs.Paths.{Reached, root, not-a, and-a, and-b, or-a, or-b, implies-a, implies-b, equivalent-a, equivalent-b, has}
+use Rattle.formula.specs.Inner.Right.{Below, WellFormed}
+use Rattle.formula.proofs.Laws.WellFormed.{accepted-well-formed}
+use Rattle.formula.proofs.Laws.Marks.{Le, joined-either, turned-has, doubled-has, doubled-either, unmarked-has, mark-same, mark-other, Passed, passed}
 use Rattle.formula.specs.declared.mark.Mark.{Mark}
 use Rattle.formula.specs.declared.node.Kind.{Kind}
 use Rattle.formula.specs.declared.node.Kind.the-variants.{False, True, Symbol, Not, And, Or, Implies, Equivalent, Unknown}
 use Rattle.formula.specs.declared.node.Node.{Node}
-use Rattle.formula.proofs.Laws.WellFormed.{accepted-well-formed}
-use Rattle.formula.specs.Records.{Below, WellFormed}
-use Rattle.formula.proofs.Laws.Marks.{Le, joined-either, turned-has, doubled-has, doubled-either, unmarked-has, mark-same, mark-other, Passed, passed}
 
 module _ (ns : List Node) where
   -- from node k on, what a node passes on to a child is in the child's mark

@@ -8,11 +8,11 @@ use native.Mathlib.Omega.{arith}
 use lib.Dec.{eqb, ltb}
 use lib.ListN.{length}
 use borrow.Author.Tests.{eqb-true, ltb-false}
-use Rattle.answer.specs.Numbers.{refuses}
-use Rattle.answer.specs.declared.Answer.the-variants.{Accepted, Set}
-use Rattle.answer.proofs.Laws.Order.{passes}
 use Rattle.laws.proofs.First.{first-before}
+use Rattle.answer.specs.Numbers.{refuses}
+use Rattle.answer.proofs.Laws.Order.{passes}
 use Rattle.formula.specs.Sets.{byteRight, firstWrongByte, setChecked}
+use Rattle.answer.specs.declared.Answer.the-variants.{Accepted, Set}
 use Rattle.formula.specs.declared.node.Node.{Node}
 
 module _ (ns : List Node) (s : List ℕ) where

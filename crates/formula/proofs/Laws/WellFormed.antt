@@ -9,19 +9,21 @@ use lib.Dec.{eqb, leb, ltb}
 use lib.ListN.{length, List·getD-eq-default}
 use borrow.Author.Tests.{eqb-true, eqb-false, ltb-true, ltb-false, leb-true, not-false}
 use Rattle.answer.specs.declared.Answer.the-variants.{Accepted, TableLength, Options, Record}
+use Rattle.laws.proofs.Choices.{neither}
+use Rattle.laws.proofs.First.{first-before, first-fails}
 use Rattle.answer.specs.Numbers.{refuses}
 use Rattle.answer.proofs.Laws.Order.{passes}
-use Rattle.laws.proofs.First.{first-before, first-fails}
 use Rattle.formula.specs.Limits.{nodeBytes, mostNodes, mostOptions}
 use Rattle.formula.specs.Nodes.{nodeAt, nodeCount, nodesOf, nodeIn}
-use Rattle.formula.specs.Records.{known, useOfA, useOfB, fieldRight, faultOf, FieldBelow, Below, WellFormed}
-use Rattle.formula.specs.Checks.{RightLength, lengthWrong, recordRight, firstWrong, checked}
+use Rattle.formula.specs.Records.{known, useOfA, useOfB, fieldRight, faultOf}
+use Rattle.formula.specs.Inner.Right.{FieldBelow, Below, WellFormed, RightLength}
+use Rattle.formula.specs.Checks.{lengthWrong, recordRight, firstWrong, checked}
+use Rattle.formula.proofs.Laws.Tables.{length-nodesOf, nodeIn-nodesOf}
 use Rattle.formula.specs.declared.node.Kind.{Kind}
 use Rattle.formula.specs.declared.node.Kind.the-variants.{Symbol}
 use Rattle.formula.specs.declared.node.Node.{Node}
 use Rattle.formula.specs.declared.node.Use.{Use}
 use Rattle.formula.specs.declared.node.Use.the-variants as held
-use Rattle.formula.proofs.Laws.Tables.{length-nodesOf, nodeIn-nodesOf}
 
 pub record Accepts (t : List ℕ) (v : ℕ) : Type 0 where
   pub lengths : lengthWrong (length t) ≡ false
@@ -60,14 +62,10 @@ accepts t v x y e =
     }
 
 -- a right length: some nodes, and no more than a table may have
-none-of : (a b : Bool) → (a || b) ≡ false → (a ≡ false) × (b ≡ false)
-none-of true b e = let z : _≡_ {A = ℕ} 0 1 = cc in absurd (omega arith)
-none-of false b e = (refl, e)
-
 pub right-length : (n : ℕ) → lengthWrong n ≡ false → RightLength n
 right-length n e =
-    let empty = none-of (eqb n 0) (not (eqb (n % nodeBytes) 0) || ltb (nodeBytes * mostNodes) n) e in
-    let uneven = none-of (not (eqb (n % nodeBytes) 0)) (ltb (nodeBytes * mostNodes) n) (empty .1) in
+    let empty = neither (eqb n 0) (not (eqb (n % nodeBytes) 0) || ltb (nodeBytes * mostNodes) n) e in
+    let uneven = neither (not (eqb (n % nodeBytes) 0)) (ltb (nodeBytes * mostNodes) n) (empty .1) in
     let z = eqb-false n 0 (empty .0) in
     let even : n % nodeBytes ≡ 0 = eqb-true (n % nodeBytes) 0 (not-false (eqb (n % nodeBytes) 0) (uneven .0)) in
     record { some = omega arith; even = even; most = ltb-false (nodeBytes * mostNodes) n (uneven .1) }

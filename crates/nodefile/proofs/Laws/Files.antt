@@ -11,17 +11,17 @@ use lib.Dec.{eqb, ltb}
 use lib.ListN.{length, getD, take, drop, length-drop, length-append, drop-of-length-le}
 use lib.Seq.{drop-drop, getD-drop, take-at, length-take-le}
 use borrow.Author.Tests.{ltb-true, ltb-false, lt-ltb, le-ltb, eq-eqb, ne-eqb}
-use Rattle.laws.specs.Splices.{splice}
+use Rattle.laws.specs.Lists.{splice}
+use Rattle.laws.proofs.Choices.{both}
 use Rattle.laws.proofs.First.{Looking, looking-start, looking-more, looking-here, looking-end}
 use Rattle.laws.proofs.Splices.{length-splice}
 use Rattle.formula.specs.Limits.{nodeBytes, mostNodes}
-use Rattle.nodefile.specs.Limits.{newline}
-use Rattle.nodefile.specs.Pieces.{parted}
-use Rattle.nodefile.specs.Lines.{optionCount, nodeLine, recordOf, nodeRecord}
+use Rattle.text.specs.Pieces.{parted}
+use Rattle.text.proofs.Laws.Pieces.{parted-some, parted-alone}
+use Rattle.formula.specs.Nodes.{nodeRecord}
+use Rattle.nodefile.specs.Lines.{newline, optionCount, nodeLine, recordOf}
 use Rattle.nodefile.specs.Files.{lineCount, lineOf, lineRight, firstWrong, fileRight, fileNodes, recordsTo}
-use Rattle.nodefile.specs.Steps.{nextPasses, LineIs, OptionsAre, nodeTest, NodeIs}
-use Rattle.nodefile.proofs.Laws.Choices.{both}
-use Rattle.nodefile.proofs.Laws.Pieces.{parted-some, parted-alone}
+use Rattle.nodefile.specs.Inner.Steps.{nextPasses, LineIs, OptionsAre, nodeTest, NodeIs}
 
 -- the lowest wrong or missing line is line i
 pub record Refused (text : List ℕ) (i : ℕ) : Type 0 where

@@ -8,10 +8,10 @@ use native.Mathlib.Omega.{arith}
 use lib.Dec.{eqb, leb, ltb}
 use lib.ListN.{length}
 use borrow.Author.Tests.{eqb-true, leb-true, leb-false}
+use Rattle.laws.proofs.Choices.{both}
 use Rattle.laws.proofs.First.{first-before}
 use Rattle.formula.specs.Limits.{nodeBytes, mostNodes}
 use Rattle.nodefile.specs.Files.{lineCount, lineOf, lineRight, firstWrong, fileRight, fileNodes, fileTable}
-use Rattle.nodefile.proofs.Laws.Choices.{both}
 use Rattle.nodefile.proofs.Laws.Files.{length-records}
 
 module _ (text : List ℕ) (right : fileRight text ≡ true) where

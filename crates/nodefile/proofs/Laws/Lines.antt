@@ -7,17 +7,18 @@ use Prim.Native.Nat.{ℕ, _+_, _-_, _≤_, _<_}
 use native.Mathlib.Omega.{arith}
 use lib.ListN.{length, take, drop}
 use borrow.Author.Tests.{lt-ltb, le-ltb}
-use Rattle.nodefile.specs.Limits.{newline}
-use Rattle.nodefile.specs.Pieces.{parted}
+use Rattle.laws.proofs.Choices.{chose-first, chose-second}
+use Rattle.text.specs.Pieces.{parted}
+use Rattle.text.specs.Inner.Pieces.{MarkAt}
+use Rattle.text.specs.declared.number.Number.the-variants as number
+use Rattle.text.proofs.Laws.Pieces.{parted-next, pieces-within, pieces-past, parted-some}
 use Rattle.formula.specs.Limits.{mostNodes}
-use Rattle.nodefile.specs.Lines.{fieldValue, optionLine, optionCount, nodeLine, nodeRecord}
-use Rattle.nodefile.specs.Steps.{MarkAt, nextPasses, LineIs, OptionsAre, nodeTest, NodeIs, optionsOf, nodeOf}
-use Rattle.nodefile.specs.declared.field.Number.the-variants as number
+use Rattle.formula.specs.Nodes.{nodeRecord}
+use Rattle.nodefile.specs.Lines.{newline, fieldValue, optionLine, optionCount, nodeLine}
+use Rattle.nodefile.specs.Inner.Steps.{nextPasses, LineIs, OptionsAre, nodeTest, NodeIs, optionsOf, nodeOf}
 use Rattle.nodefile.specs.declared.line.Node.{Node}
 use Rattle.nodefile.specs.declared.line.Node.the-variants as node
-use Rattle.nodefile.proofs.Laws.Choices.{chose-first, chose-second}
 use Rattle.nodefile.proofs.Laws.Fields.{number-differs, number-same}
-use Rattle.nodefile.proofs.Laws.Pieces.{parted-next, pieces-within, pieces-past, parted-some}
 
 module _ (test : List ℕ → Bool) (text : List ℕ) (at end : ℕ) (m : MarkAt newline text at end) where
   -- no newline

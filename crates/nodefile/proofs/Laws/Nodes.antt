@@ -1,38 +1,29 @@
 -- The line of a node, field by field.
 -- Assumes nothing.
 use mathlib.Core.Path.{_≡_, sym, ap, _∙_}
-use mathlib.Core.Bool.{true, false, _&&_}
+use mathlib.Core.Bool.{true, false}
 use mathlib.Core.List.{List, [], _∷_}
 use Prim.Native.Nat.{ℕ, _≤_, _<_}
 use native.Mathlib.Omega.{arith}
-use lib.Dec.{leb}
 use lib.ListN.{length, getD}
-use borrow.Author.Tests.{eq-eqb, ne-eqb, leb-true}
-use Rattle.nodefile.specs.Limits.{mostKind, mostNumber, tab}
-use Rattle.nodefile.specs.Numbers.{isNumber, noLeadingZero, allDigits, valueOf}
-use Rattle.nodefile.specs.Lines.{fieldsOf, fieldValue, areNumbers, nodeLimits}
-use Rattle.nodefile.specs.Steps.{piecesAt, FieldIs, nodeOf}
+use borrow.Author.Tests.{eq-eqb, ne-eqb}
+use Rattle.text.specs.Decimals.{valueOf}
+use Rattle.text.proofs.Laws.Pieces.{piecesAt, pieces-within, pieces-past, NoField, FieldIs}
+use Rattle.nodefile.specs.Lines.{tab, mostKind, mostNumber, fieldsOf, fieldValue, areNumbers, nodeLimits}
+use Rattle.nodefile.specs.Inner.Steps.{nodeOf}
 use Rattle.nodefile.specs.declared.line.Node.the-variants.{Is, Wrong}
-use Rattle.nodefile.proofs.Laws.Choices.{both}
-use Rattle.nodefile.proofs.Laws.Pieces.{pieces-within, pieces-past}
-use Rattle.nodefile.proofs.Laws.Fields.{numbers-step, numbers-more, numbers-end}
+use Rattle.nodefile.proofs.Laws.Fields.{numbers-not, numbers-step, numbers-more, numbers-end}
 
 -- the fields before a place are right: what is left decides
 pub record Left (line limits : List ℕ) (at : ℕ) : Type 0 where
   decides : areNumbers nodeLimits (fieldsOf line) ≡ areNumbers limits (piecesAt tab line at)
-
--- a number is as small as its limit says
-pub number-small : (most : ℕ) (f : List ℕ) → isNumber most f ≡ true → valueOf f ≤ most
-number-small most f e =
-    let p = both (noLeadingZero f) (allDigits f && leb (valueOf f) most) e in
-    leb-true (valueOf f) most (both (allDigits f) (leb (valueOf f) most) (p .1) .1)
 
 module _ (line : List ℕ) where
   pub left-start : Left line nodeLimits 0
   left-start = record { decides = ap (areNumbers nodeLimits) (sym (pieces-within tab line 0 (omega arith))) }
 
   pub left-next : {most : ℕ} {limits : List ℕ} {at v next : ℕ} → Left line (most ∷ limits) at
-      → FieldIs line at most v next → Left line limits next
+      → FieldIs tab most line at v next → Left line limits next
   left-next {limits = limits} l f = record { decides = l .decides ∙ numbers-step line f limits }
 
 module _ (i : ℕ) (line : List ℕ) where
@@ -40,16 +31,16 @@ module _ (i : ℕ) (line : List ℕ) where
   node-wrong e = rw e
 
   pub node-number : {most : ℕ} {limits : List ℕ} {at : ℕ} → Left line (most ∷ limits) at
-      → ((limits : List ℕ) → areNumbers (most ∷ limits) (piecesAt tab line at) ≡ false) → Wrong ≡ nodeOf i line
-  node-number {limits = limits} l f = node-wrong (l .decides ∙ f limits)
+      → NoField tab most line at → Wrong ≡ nodeOf i line
+  node-number {limits = limits} l f = node-wrong (l .decides ∙ numbers-not line f limits)
 
   pub node-more : {next : ℕ} → Left line [] next → next ≤ length line → Wrong ≡ nodeOf i line
   node-more {next} l h = node-wrong (l .decides ∙ numbers-more line next h)
 
   -- the four fields
   module _ {n kind a b second third fourth fifth : ℕ}
-      (f₀ : FieldIs line 0 mostNumber n second) (f₁ : FieldIs line second mostKind kind third)
-      (f₂ : FieldIs line third mostNumber a fourth) (f₃ : FieldIs line fourth mostNumber b fifth)
+      (f₀ : FieldIs tab mostNumber line 0 n second) (f₁ : FieldIs tab mostKind line second kind third)
+      (f₂ : FieldIs tab mostNumber line third a fourth) (f₃ : FieldIs tab mostNumber line fourth b fifth)
       (h : length line < fifth) where
     fields : fieldsOf line ≡ f₀ .piece ∷ f₁ .piece ∷ f₂ .piece ∷ f₃ .piece ∷ []
     fields =

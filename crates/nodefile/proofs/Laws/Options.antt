@@ -5,13 +5,13 @@ use mathlib.Core.Bool.{true, false}
 use mathlib.Core.List.{List, [], _∷_}
 use Prim.Native.Nat.{ℕ, _+_, _≤_, _<_}
 use lib.ListN.{length, getD, take}
-use Rattle.nodefile.specs.Limits.{mostNumber, tab, optionsWord}
-use Rattle.nodefile.specs.Numbers.{valueOf}
-use Rattle.nodefile.specs.Lines.{areNumbers, same, optionLine, optionFields, optionCount}
-use Rattle.nodefile.specs.Steps.{piecesAt, MarkAt, FieldIs, optionsOf}
-use Rattle.nodefile.specs.declared.field.Number.the-variants.{Is, Wrong}
-use Rattle.nodefile.proofs.Laws.Pieces.{parted-front}
-use Rattle.nodefile.proofs.Laws.Fields.{numbers-step, numbers-more, numbers-end}
+use Rattle.text.specs.Decimals.{valueOf, same}
+use Rattle.text.specs.Inner.Pieces.{MarkAt}
+use Rattle.text.specs.declared.number.Number.the-variants.{Is, Wrong}
+use Rattle.text.proofs.Laws.Pieces.{piecesAt, parted-front, NoField, FieldIs}
+use Rattle.nodefile.specs.Lines.{tab, mostNumber, areNumbers, optionsWord, optionLine, optionFields, optionCount}
+use Rattle.nodefile.specs.Inner.Steps.{optionsOf}
+use Rattle.nodefile.proofs.Laws.Fields.{numbers-not, numbers-step, numbers-more, numbers-end}
 
 options-wrong : (line : List ℕ) → optionLine line ≡ false → Wrong ≡ optionsOf line
 options-wrong line e = rw e
@@ -24,11 +24,10 @@ module _ (line : List ℕ) (end : ℕ) (m : MarkAt tab line 0 end) where
     worded : optionLine line ≡ areNumbers (mostNumber ∷ []) (piecesAt tab line (end + 1))
     worded = ap optionFields (parted-front tab m) ∙ rw (sym e)
 
-    pub options-number : ((limits : List ℕ) → areNumbers (mostNumber ∷ limits) (piecesAt tab line (end + 1)) ≡ false)
-        → Wrong ≡ optionsOf line
-    options-number f = options-wrong line (worded ∙ f [])
+    pub options-number : NoField tab mostNumber line (end + 1) → Wrong ≡ optionsOf line
+    options-number f = options-wrong line (worded ∙ numbers-not line f [])
 
-    module _ {v next : ℕ} (f : FieldIs line (end + 1) mostNumber v next) where
+    module _ {v next : ℕ} (f : FieldIs tab mostNumber line (end + 1) v next) where
       pub options-more : next ≤ length line → Wrong ≡ optionsOf line
       options-more h = options-wrong line (worded ∙ numbers-step line f [] ∙ numbers-more line next h)
 

@@ -6,12 +6,11 @@ use Prim.Native.Nat.{_+_, _*_, _-_, _≤_, _<_}
 use native.Mathlib.Omega.{arith}
 use borrow.Author.Needs.{needs}
 use lib.ListN.{length, take}
-use Rattle.laws.specs.Splices.{splice}
+use Rattle.laws.specs.Lists.{splice}
 use Rattle.formula.specs.Limits.{nodeBytes, mostNodes}
-use Rattle.nodefile.specs.Limits.{mostBytes}
 use Rattle.nodefile.specs.Lines.{optionLine, optionCount}
-use Rattle.nodefile.specs.Files.{lineOf, fileRight, fileNodes}
-use Rattle.nodefile.specs.Steps.{OptionsFound, NodeFound, NodeIs, nodeTest}
+use Rattle.nodefile.specs.Files.{lineOf, fileRight, fileNodes, mostBytes}
+use Rattle.nodefile.specs.Inner.Steps.{OptionsFound, NodeFound, NodeIs, nodeTest}
 use Rattle.nodefile.proofs.Laws.Files.{Standing, standing-start, options-standing, refused-here, right-end}
 use Rattle.nodefile.proofs.Laws.Files.{node-tested, node-standing, node-record, node-few}
 use Rattle.nodefile.proofs.Laws.Files.{Collected, collected-start, collected-more, length-records}
@@ -141,7 +140,7 @@ returns-5 c =
     let x = start-of at .args in
     let r = right (else .before) in
     file-stored (x .text .now) (x .table .now) (short-of at) (r .0) _ (l .nodes) (l .inv .2) (r .1) _ (else .if2 .left)
-    (copy .copy .ensures ∙ ap (splice (x .table .now) 0) (l .inv .4 .front))
+    (copy .put-bytes .ensures .list ∙ ap (splice (x .table .now) 0) (l .inv .4 .front))
 
 pub read-spec : {M : Type 1} → statement M
 read-spec =
@@ -170,8 +169,8 @@ read-spec =
     (λ c. search needs)
     (λ c. search needs)
     returns-4
-    (λ c. omega (arith, c .before .before .loop .inv .4 .size))
-    (λ c. sym (copied (c .before .before .before)))
-    (λ c κs. omega (arith, copied (c .before .before .before .before), c .before .before .if2 .left))
+    (λ c. let at = c .before .before .before in omega (arith, at .loop .inv .4 .size))
+    (λ c. let else = c .before .before in sym (copied (else .before .before)))
+    (λ c κs. let else = c .before .before in omega (arith, copied (else .before .before), else .if2 .left))
     (λ c. search needs)
     returns-5)

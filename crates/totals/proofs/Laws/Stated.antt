@@ -6,9 +6,9 @@ use Prim.Native.Nat.{ℕ, _<_, _≤_}
 use native.Mathlib.Omega.{arith}
 use lib.Dec.{ltb}
 use borrow.Author.Tests.{ltb-true, ltb-false, lt-ltb, le-ltb}
-use Rattle.laws.specs.Caps.{cap}
+use Rattle.laws.specs.Numbers.{cap}
 use Rattle.clausal.specs.Totals.{Size, clauseCeiling, literalCeiling, shown}
-use Rattle.totals.specs.Sized.{sized, statedAs}
+use Rattle.totals.specs.Inner.Sized.{asTotal, statedAs}
 
 -- a capped number is below its ceiling exactly where the number is
 ltb-cap : (ceiling n : ℕ) → ltb (cap ceiling n) ceiling ≡ ltb n ceiling
@@ -19,7 +19,10 @@ ltb-cap ceiling n = go (ltb n ceiling) refl
     go false e = let h : ceiling ≤ n = ltb-false n ceiling e in le-ltb (cap ceiling n) ceiling (omega arith) ∙ sym e
 
 pub stated-shown : (c l clauses literals : ℕ) → c ≡ cap clauseCeiling clauses → l ≡ cap literalCeiling literals
-    → sized (statedAs c l) ≡ shown (record { clauses = clauses; literals = literals })
+    → statedAs c l ≡ asTotal (shown (record { clauses = clauses; literals = literals }))
 stated-shown c l clauses literals e f =
-    (λ i. sized (statedAs (e i) (f i)))
-    ∙ ap (λ (b : Bool). record { clauses = cap clauseCeiling clauses; literals = cond b (cap literalCeiling literals) literalCeiling }) (ltb-cap clauseCeiling clauses)
+    let read : Bool → Size = λ b. record {
+      clauses = cap clauseCeiling clauses;
+      literals = cond b (cap literalCeiling literals) literalCeiling;
+    } in
+    (λ i. statedAs (e i) (f i)) ∙ ap (λ (b : Bool). asTotal (read b)) (ltb-cap clauseCeiling clauses)

@@ -27,7 +27,7 @@ asked c κs =
     let t = start .args .table .now in
     let v = start .args .options in
     let e = tested _ _ _ (check .check .ensures) (if1 .before .is-refusal .ensures) false (if1 .if1 .left) in
-    (length-right t v e, accepted-well-formed t v 0 0 (checked-accepted t v e) .below)
+    record { size = length-right t v e; below = accepted-well-formed t v 0 0 (checked-accepted t v e) .below }
 
 chosen : tie.Need-returns-2
 chosen c =

@@ -1,10 +1,10 @@
--- `choose::pass::choose_under` meets its contract: the buffer's length first, then the pass from the empty set. Assumes nothing.
-use mathlib.Core.Path.{_≡_, refl, sym, ap, _∙_}
+-- `choose::pass::choose_under` meets its contract: the buffer's length first, then the pass from the empty set.
+-- Assumes nothing.
+use mathlib.Core.Path.{_≡_, sym, ap, _∙_}
 use Prim.Native.Nat.{ℕ}
-use lib.ListN.{length, replicate}
+use lib.ListN.{replicate}
 use borrow.Author.Needs.{needs}
 use borrow.Author.Tests.{eq-eqb, ne-eqb}
-use Rattle.formula.specs.Nodes.{nodesOf}
 use Rattle.formula.proofs.Laws.Tables.{length-nodesOf}
 use Rattle.choose.proofs.pass.choose_under.Statement.{statement}
 use Rattle.choose.proofs.pass.choose_under.Tie as tie
@@ -16,22 +16,25 @@ length-wrong c =
 
 asked : tie.Need-pass-requires
 asked c κs =
-    let toward-clear = c .before .before .before .before in
-    let clear = toward-clear .before in
+    let marks = c .before .before in
+    let clear = marks .before .before .before .before in
     let if1 = clear .before .before in
     let start = if1 .before .before .before in
     let t = start .args .table .now in
-    (start .pre .0, (start .pre .1, (c .before .before .marks .ensures, clear .clear .ensures ∙ ap (λ (k : ℕ). replicate k 0) (if1 .if1 .left ∙ sym (length-nodesOf t)))))
+    record {
+      marked = record { size = start .pre .size; are = marks .mark-all .ensures };
+      below = start .pre .below;
+      empty = clear .clear .ensures ∙ ap (λ (k : ℕ). replicate k 0) (if1 .if1 .left ∙ sym (length-nodesOf t));
+    }
 
 chosen : tie.Need-returns-2
 chosen c =
-    let pass = c .before .before in
+    let pass = c .before .before .before in
     let toward-clear = pass .before .before .before .before in
-    let clear = toward-clear .before .before in
-    let if1 = clear .before .before in
+    let toward-if1 = toward-clear .before .before .before .before in
+    let if1 = toward-if1 .before in
     let start = if1 .before .before .before in
-    let t = start .args .table .now in
-    rw (eq-eqb _ _ (if1 .if1 .left ∙ sym (length-nodesOf t))) (pass .pass .ensures)
+    rw (eq-eqb _ _ (if1 .if1 .left ∙ sym (length-nodesOf (start .args .table .now)))) (pass .pass .ensures)
 
 pub choose-under-spec : {M : Type 1} → statement M
 choose-under-spec =
@@ -41,7 +44,7 @@ choose-under-spec =
     length-wrong
     (λ c κs. search needs)
     (λ c κs. search needs)
-    (λ c. search needs)
     asked
+    (λ c. search needs)
     (λ c. search needs)
     chosen)

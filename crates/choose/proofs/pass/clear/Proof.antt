@@ -22,7 +22,7 @@ loop-again : tie.Need-loop-again Inv-loop μ-loop
 loop-again c =
     let loop = c .before in
     let before = loop .before .args .set .now in
-    let i = loop .loop .i in
+    let i = loop .loop .at in
     let h : i < length before = omega arith in
     (omega arith, length-set (loop .loop .set) i 0 ∙ loop .loop .inv .1, ap (λ (l : List ℕ). lib.ListN.set l i 0) (loop .loop .inv .2) ∙ fill-more i 0 before h)
 
@@ -33,7 +33,7 @@ returns : tie.Need-returns Inv-loop μ-loop
 returns c =
     let loop = c .before in
     let before = loop .before .args .set .now in
-    let e : loop .loop .i ≡ length before = omega arith in
+    let e : loop .loop .at ≡ length before = omega arith in
     loop .loop .inv .2
     ∙ ap (λ (k : ℕ). replicate k 0 ++ drop k before) e
     ∙ ap (λ (l : List ℕ). replicate (length before) 0 ++ l) (drop-of-length-le before {i = length before} (omega arith))

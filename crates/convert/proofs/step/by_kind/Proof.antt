@@ -1,104 +1,112 @@
--- `convert::step::by_kind` meets its contract: each kind has its step. Assumes nothing.
-use mathlib.Core.Path.{_≡_, refl, sym, ap, _∙_}
-use mathlib.Core.Bool.{true, false, not}
+-- `convert::step::by_kind` meets its contract: each kind has its rule. Assumes nothing.
 use native.Mathlib.Omega.{arith}
 use borrow.Author.Needs.{needs}
-use Rattle.formula.specs.declared.node.Kind.{Kind}
-use Rattle.convert.specs.Steps.{side, stepBy, joinsStep, kindStep}
-use Rattle.convert.specs.declared.step.Step.{Step}
-use Rattle.convert.specs.declared.step.Step.the-variants.{Literal}
+use Rattle.formula.specs.declared.node.Kind.the-variants.{Symbol, Not, And, Or, Implies, Equivalent}
+use Rattle.convert.proofs.Laws.Walks.{child-a, child-b, stepped}
 use Rattle.convert.proofs.step.by_kind.Statement.{statement}
 use Rattle.convert.proofs.step.by_kind.Tie as tie
 
--- a step of a kind, where the node is of that kind
-by : (s : tie.Start) (k : Kind) (step : Step) → s .args .node .kind ≡ k
-    → let a = s .args in step ≡ stepBy k (a .helpers .now) (a .p-clauses .now) (a .n-clauses .now) (a .node .a) (a .node .b) (a .sign) (a .k)
-    → step ≡ kindStep (a .helpers .now) (a .p-clauses .now) (a .n-clauses .now) (a .node) (a .sign) (a .k)
-by s k step e q =
-    let a = s .args in
-    q ∙ sym (ap (λ (x : Kind). stepBy x (a .helpers .now) (a .p-clauses .now) (a .n-clauses .now) (a .node .a) (a .node .b) (a .sign) (a .k)) e)
+symbol-fits : tie.Need-cast-literal
+symbol-fits c = omega (arith, c .before .before .pre .symbol (c .enum-told3 .given .1) .1)
 
-symbol-fits : tie.Need-cast-word
-symbol-fits c =
-    let back = c .before .before .before .before in
-    let start = back .before in
-    record { fits = omega (arith, start .pre .range (c .enum-told3 .given .1) .1) }
+symbol-step : tie.Need-returns-6
+symbol-step c = stepped _ Symbol (c .before .enum-told3 .given .1) _ _ _ _ _ (c .literal .ensures)
 
-symbol-some : tie.Need-word-requires
-symbol-some c κs =
-    let back = c .before .before .before .before in
-    let start = back .before in
-    start .pre .range (c .enum-told3 .given .1) .0
+not-step : tie.Need-returns-7
+not-step c = stepped _ Not (c .before .enum-told4 .given .1) _ _ _ _ _ (c .left .ensures)
 
-symbol-step : tie.Need-returns-3
-symbol-step c =
-    let told = c .before in
-    let back = told .before .before .before .before in
-    by (back .before) _ _ (told .enum-told3 .given .1) (ap Literal (c .word .ensures))
+and-positive-child : tie.Need-in-cat-requires
+and-positive-child c κs = child-a _ And (c .before .enum-told5 .given .1) (c .before .before .before .pre)
 
-not-step : tie.Need-returns-4
-not-step c =
-    let back = c .before .before .before .before in
-    by (back .before) _ _ (c .enum-told4 .given .1) refl
+and-positive : tie.Need-returns
+and-positive c =
+    let if1 = c .before in
+    stepped _ And (if1 .before .enum-told5 .given .1) _ _ _ _ _ (rw (if1 .if1 .taken) (c .in-cat .ensures))
 
-and-step : tie.Need-returns-5
-and-step c =
-    let told = c .before in
-    let back = told .before .before .before .before in
-    by (back .before) _ _ (told .enum-told5 .given .1) (c .in-pair .ensures)
+and-negative-child : tie.Need-in-join-requires
+and-negative-child c κs = child-b _ And (c .before .enum-told5 .given .1) (c .before .before .before .pre)
 
-or-step : tie.Need-returns-6
-or-step c =
-    let told = c .before in
-    let back = told .before .before .before .before in
-    by (back .before) _ _ (told .enum-told6 .given .1) (c .in-pair2 .ensures)
+and-negative : tie.Need-returns-8
+and-negative c =
+    let if1 = c .before in
+    stepped _ And (if1 .before .enum-told5 .given .1) _ _ _ _ _ (rw (if1 .if1 .left) (c .in-join .ensures))
 
-implies-step : tie.Need-returns-7
-implies-step c =
-    let told = c .before in
-    let back = told .before .before .before .before in
-    by (back .before) _ _ (told .enum-told7 .given .1) (c .in-pair3 .ensures)
+or-positive-child : tie.Need-in-join-requires-2
+or-positive-child c κs = child-b _ Or (c .before .enum-told6 .given .1) (c .before .before .before .pre)
 
-equivalent-step : tie.Need-returns-8
-equivalent-step c =
-    let second = c .before in
-    let first = second .before in
-    let told = first .before in
-    let back = told .before .before .before .before in
-    let start = back .before in
-    let a = start .args in
-    by start _ _ (told .enum-told8 .given .1)
-    (c .in-joins .ensures
-    ∙ (λ i. joinsStep (a .helpers .now) (a .p-clauses .now) (a .n-clauses .now) (side (a .node .a) false) (side (a .node .b) (a .sign))
-    (side (first .pick .ensures i) (not (a .sign))) (side (second .pick2 .ensures i) true) (a .k)))
+or-positive : tie.Need-returns-2
+or-positive c =
+    let if2 = c .before in
+    stepped _ Or (if2 .before .enum-told6 .given .1) _ _ _ _ _ (rw (if2 .if2 .taken) (c .in-join2 .ensures))
+
+or-negative-child : tie.Need-in-cat-requires-2
+or-negative-child c κs = child-a _ Or (c .before .enum-told6 .given .1) (c .before .before .before .pre)
+
+or-negative : tie.Need-returns-9
+or-negative c =
+    let if2 = c .before in
+    stepped _ Or (if2 .before .enum-told6 .given .1) _ _ _ _ _ (rw (if2 .if2 .left) (c .in-cat2 .ensures))
+
+implies-positive-child : tie.Need-in-join-requires-3
+implies-positive-child c κs = child-b _ Implies (c .before .enum-told7 .given .1) (c .before .before .before .pre)
+
+implies-positive : tie.Need-returns-3
+implies-positive c =
+    let if3 = c .before in
+    stepped _ Implies (if3 .before .enum-told7 .given .1) _ _ _ _ _ (rw (if3 .if3 .taken) (c .in-join3 .ensures))
+
+implies-negative-child : tie.Need-in-cat-requires-3
+implies-negative-child c κs = child-a _ Implies (c .before .enum-told7 .given .1) (c .before .before .before .pre)
+
+implies-negative : tie.Need-returns-10
+implies-negative c =
+    let if3 = c .before in
+    stepped _ Implies (if3 .before .enum-told7 .given .1) _ _ _ _ _ (rw (if3 .if3 .left) (c .in-cat3 .ensures))
+
+equivalent-children : tie.Need-in-joins-requires
+equivalent-children c κs =
+    let e = c .enum-told8 .given .1 in
+    let w = c .before .before .pre in
+    (child-a _ Equivalent e w, child-b _ Equivalent e w)
+
+equivalent-step : tie.Need-returns-11
+equivalent-step c = stepped _ Equivalent (c .before .enum-told8 .given .1) _ _ _ _ _ (c .in-joins .ensures)
 
 pub by-kind-spec : {M : Type 1} → statement M
 by-kind-spec =
     tie.close
     (tie.spec
     (λ c. search needs)
+    (λ c κs. search needs)
     (λ c. search needs)
+    (λ c κs. search needs)
     (λ c. search needs)
     symbol-fits
-    symbol-some
-    (λ c. search needs)
-    (λ c. search needs)
     (λ c κs. search needs)
     (λ c. search needs)
     (λ c κs. search needs)
     (λ c. search needs)
-    (λ c κs. search needs)
+    and-positive-child
+    and-positive
+    and-negative-child
+    (λ c. search needs)
+    or-positive-child
+    or-positive
+    or-negative-child
+    (λ c. search needs)
+    implies-positive-child
+    implies-positive
+    implies-negative-child
+    (λ c. search needs)
+    equivalent-children
     (λ c. search needs)
     (λ c κs. search needs)
-    (λ c κs. search needs)
-    (λ c κs. search needs)
-    (λ c. search needs)
     (λ c. search needs)
     (λ c. search needs)
     symbol-step
     not-step
-    and-step
-    or-step
-    implies-step
+    and-negative
+    or-negative
+    implies-negative
     equivalent-step
     (λ c. search needs))

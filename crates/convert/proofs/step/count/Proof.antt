@@ -1,30 +1,22 @@
--- `convert::step::count` meets its contract: one clause for a helper, else the node's own total. Assumes nothing.
-use mathlib.Core.Path.{_≡_, sym, ap, _∙_}
+-- `convert::step::count` meets its contract: one where there is a helper, else the own count. Assumes nothing.
+use native.Mathlib.Omega.{arith}
 use borrow.Author.Needs.{needs}
 use borrow.Author.Tests.{eq-eqb, ne-eqb}
 use Rattle.convert.proofs.step.count.Statement.{statement}
 use Rattle.convert.proofs.step.count.Tie as tie
 
-helper : tie.Need-returns
-helper c = rw (← c .before .entry .ensures, ne-eqb _ 0 (c .if1 .taken))
+helped : tie.Need-returns
+helped c = (rw (ne-eqb _ _ (c .if1 .taken)), omega arith)
 
-plain : tie.Need-returns-2
-plain c =
-    let if1 = c .before .before in
-    rw (← if1 .before .entry .ensures, eq-eqb _ 0 (if1 .if1 .left), c .before .if2 .taken) (c .entry2 .ensures)
-
-negated : tie.Need-returns-3
-negated c =
-    let if1 = c .before .before in
-    rw (← if1 .before .entry .ensures, eq-eqb _ 0 (if1 .if1 .left), c .before .if2 .left) (c .entry3 .ensures)
+own : tie.Need-returns-2
+own c = (rw (eq-eqb _ _ (c .before .if1 .left)) (c .own-count .ensures .0), c .own-count .ensures .1)
 
 pub count-spec : {M : Type 1} → statement M
 count-spec =
     tie.close
     (tie.spec
+    (λ c. search needs)
+    (λ c. search needs)
+    helped
     (λ c κs. search needs)
-    helper
-    (λ c κs. search needs)
-    plain
-    (λ c κs. search needs)
-    negated)
+    own)

@@ -1,22 +1,27 @@
--- `convert::step::in_join` meets its contract: quotient and remainder by the right list's total. Assumes nothing.
-use mathlib.Core.Path.{_≡_, refl}
+-- `convert::step::in_join` meets its contract: by quotient and remainder. Assumes nothing.
 use borrow.Author.Needs.{needs}
 use borrow.Author.Tests.{eq-eqb, ne-eqb}
-use Rattle.convert.specs.Steps.{countIn}
 use Rattle.convert.proofs.step.in_join.Statement.{statement}
 use Rattle.convert.proofs.step.in_join.Tie as tie
 
--- the divisor is the right list's total
-each : (c : tie.After-count) → let a = c .before .before .before .before .args in c .count .result ≡ countIn (a .helpers .now) (a .p-clauses .now) (a .n-clauses .now) (a .y)
-each c = c .count .ensures
+empty : tie.Need-returns
+empty c =
+    let count = c .before .before in
+    rw (← count .count .ensures .0, eq-eqb _ _ (c .before .if1 .taken)) (c .nothing .ensures)
+
+pair : tie.Need-returns-2
+pair c =
+    let count = c .before .before in
+    rw (← count .count .ensures .0, ne-eqb _ _ (c .before .if1 .left)) (c .both .ensures)
 
 pub in-join-spec : {M : Type 1} → statement M
 in-join-spec =
     tie.close
     (tie.spec
     (λ c κs. search needs)
+    (λ c κs. search needs)
+    empty
     (λ c. search needs)
-    (λ c. rw (← each (c .before), eq-eqb _ 0 (c .if1 .taken)))
     (λ c. search needs)
-    (λ c. search needs)
-    (λ c. rw (← each (c .before), ne-eqb _ 0 (c .if1 .left)) refl))
+    (λ c κs. search needs)
+    pair)

@@ -1,64 +1,28 @@
--- `convert::step::lead` meets its contract: a helper's literal, nothing, or by the kind. Assumes nothing.
-use mathlib.Core.Path.{_≡_, refl, sym, ap, _∙_, subst⁻¹}
-use mathlib.Core.Bool.{Bool, cond}
-use Prim.Native.Nat.{ℕ}
-use native.Mathlib.Omega.{arith}
-use lib.ListN.{getD}
+-- `convert::step::lead` meets its contract: no literal at all, or the rule of the node's kind. Assumes nothing.
+use mathlib.Core.Path.{sym, ap, _∙_, subst⁻¹}
 use borrow.Author.Needs.{needs}
 use borrow.Author.Tests.{eq-eqb, ne-eqb}
 use Rattle.formula.specs.declared.node.Node.{Node}
-use Rattle.clausal.specs.Algebra.{Row}
-use Rattle.clausal.specs.Totals.{Size}
-use Rattle.convert.specs.Steps.{SymbolRight, wordOf, kindStep}
-use Rattle.convert.specs.declared.step.Step.the-variants.{Literal}
+use Rattle.convert.specs.Inner.Steps.{stepBy, Walkable}
 use Rattle.convert.proofs.step.lead.Statement.{statement}
 use Rattle.convert.proofs.step.lead.Tie as tie
 
--- the helper that was looked at
-helper-is : (c : tie.After-pick-helper) → let toward = c .before .before .before .before in let a = toward .before .before .before .before .args in
-    c .pick-helper .result ≡ cond (a .own) 0 (getD (a .helpers .now) (a .way .node) 0)
-helper-is c =
-    let back = c .before .before .before .before in
-    let start = back .before .before .before .before in
-    c .pick-helper .ensures ∙ ap (λ (h : ℕ). cond (start .args .own) 0 h) (c .before .entry .ensures)
-
-helper-literal : tie.Need-returns
-helper-literal c =
+no-literal : tie.Need-returns
+no-literal c =
     let if1 = c .before in
-    rw (← helper-is (if1 .before), ne-eqb _ 0 (if1 .if1 .taken)) (ap Literal (c .word .ensures))
+    rw (← if1 .before .own-literals .ensures, eq-eqb _ _ (if1 .if1 .taken)) (c .nothing .ensures)
 
--- the literal total that was looked at
-literals-are : (c : tie.After-literals) → let toward = c .before .before .before .before in let further = toward .before .before .before .before in let a = further .before .before .before .args in
-    c .literals .result ≡ cond (a .way .sign) (getD (a .p-literals .now) (a .way .node) 0) (getD (a .n-literals .now) (a .way .node) 0)
-literals-are c =
-    let back = c .before .before .before .before in
-    let further = back .before .before .before .before in
-    let start = further .before .before .before in
-    c .literals .ensures ∙ ap (λ (r : Row Size). cond (start .args .way .sign) (r .P .literals) (r .N .literals)) (c .before .row-at .ensures)
+walkable : tie.Need-by-kind-requires
+walkable c κs = subst⁻¹ Walkable (c .node-at .ensures) (c .before .before .before .before .pre .walkable)
 
-nothing : tie.Need-returns-2
-nothing c =
-    let if1 = c .before .before .before in
-    rw (← helper-is (if1 .before), eq-eqb _ 0 (if1 .if1 .left), ← literals-are (c .before), eq-eqb _ 0 (c .if2 .taken))
-
-asked : tie.Need-by-kind-requires
-asked c κs =
-    let back = c .before .before .before .before in
-    let further = back .before .before .before .before in
-    let farther = further .before .before .before .before in
-    let start = farther .before in
-    subst⁻¹ SymbolRight (c .node-at .ensures) (start .pre .1)
-
-kind-step : tie.Need-returns-3
-kind-step c =
+by-kind : tie.Need-returns-2
+by-kind c =
     let node = c .before in
-    let if2 = node .before in
-    let if1 = if2 .before .before .before in
-    let back = if1 .before .before .before .before in
-    let further = back .before .before .before .before in
-    let a = further .before .args in
-    rw (← helper-is (if1 .before), eq-eqb _ 0 (if1 .if1 .left), ← literals-are (if2 .before), ne-eqb _ 0 (if2 .if2 .left))
-    (c .by-kind .ensures ∙ ap (λ (m : Node). kindStep (a .helpers .now) (a .p-clauses .now) (a .n-clauses .now) m (a .way .sign) (a .way .k)) (node .node-at .ensures))
+    let if1 = node .before .before in
+    let a = if1 .before .before .args in
+    rw (← if1 .before .own-literals .ensures, ne-eqb _ _ (if1 .if1 .left))
+    (c .by-kind .ensures
+    ∙ ap (λ (m : Node). stepBy (m .kind) (a .clauses .now) (a .helpers .now) (m .a) (m .b) (a .sign) (a .k)) (node .node-at .ensures))
 
 pub lead-spec : {M : Type 1} → statement M
 lead-spec =
@@ -66,11 +30,7 @@ lead-spec =
     (tie.spec
     (λ c κs. search needs)
     (λ c κs. search needs)
-    (λ c κs. omega arith)
-    helper-literal
+    no-literal
     (λ c κs. search needs)
-    (λ c κs. search needs)
-    nothing
-    (λ c κs. search needs)
-    asked
-    kind-step)
+    walkable
+    by-kind)

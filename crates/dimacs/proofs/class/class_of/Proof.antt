@@ -12,6 +12,4 @@ class-of-spec =
     (λ c. rw (lt-ltb _ 48 (c .before .if1 .taken)) (c .low-of .ensures))
     (λ c. rw (le-ltb _ 48 (c .before .if1 .left), eq-eqb _ 48 (c .if2 .taken)))
     (λ c. rw (le-ltb _ 48 (c .before .before .if1 .left), ne-eqb _ 48 (c .before .if2 .left), lt-ltb _ 58 (c .if3 .taken)))
-    (λ c κs. search needs)
-    (λ c. rw (le-ltb _ 48 (c .before .before .before .if1 .left), ne-eqb _ 48 (c .before .before .if2 .left), le-ltb _ 58 (c .before .if3 .left))
-    (c .letter-of .ensures)))
+    (λ c. rw (le-ltb _ 48 (c .before .before .if1 .left), ne-eqb _ 48 (c .before .if2 .left), le-ltb _ 58 (c .if3 .left))))

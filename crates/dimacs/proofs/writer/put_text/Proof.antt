@@ -5,9 +5,11 @@ use Prim.Native.Nat.{ℕ, _+_, _≤_}
 use native.Mathlib.Omega.{arith}
 use borrow.Author.Needs.{needs}
 use lib.ListN.{length}
-use Rattle.dimacs.specs.Words.{wordsOf}
-use Rattle.dimacs.specs.Written.{headerLine, wordsText, Wrote}
-use Rattle.dimacs.proofs.Laws.Writing.{room-left, room-right, wrote-both}
+use Rattle.laws.specs.Lists.{Stored}
+use Rattle.laws.proofs.Stored.{room-left, room-right, stored-both}
+use Rattle.clausebytes.specs.Words.{wordsOf}
+use Rattle.dimacs.specs.Written.{headerLine}
+use Rattle.dimacs.specs.Inner.Words.{wordsText}
 use Rattle.dimacs.proofs.writer.put_text.Statement.{statement}
 use Rattle.dimacs.proofs.writer.put_text.Tie as tie
 
@@ -18,23 +20,23 @@ abbrev lines : tie.Start → List ℕ
 lines s = wordsText (wordsOf (s .args .bytes .now))
 
 room : (s : tie.Start) → 0 + length (head s ++ lines s) ≤ length (s .args .text .now)
-room s = omega (arith, s .pre .1)
+room s = omega (arith, s .pre)
 
 returns : tie.Need-returns
 returns c =
     let q = c .before .before in
     let p = q .before .before .before .before in
     let s = p .before .before .before .before in
-    let w : Wrote (p .put-header .last .0) (p .put-header .result) (lines s) (q .put-words .last .1 .0) _ =
+    let w : Stored (lines s) (p .put-header .last .0) (p .put-header .result) _ (q .put-words .last .1 .0) =
     record { place = refl; list = q .put-words .ensures } in
-    wrote-both (s .args .text .now) 0 (head s) (lines s) (room s) (p .put-header .ensures) w .list
+    stored-both (head s) (lines s) (s .args .text .now) 0 (room s) (p .put-header .ensures) w .list
 
 pub put-text-spec : {M : Type 1} → statement M
 put-text-spec =
     tie.close
     (tie.spec
-    (λ c κs. let s = c .before .before .before in omega (arith, room-left (s .args .text .now) 0 (head s) (lines s) (room s)))
-    (λ c κs. let p = c .before .before .before in let s = p .before .before .before .before in
-    (s .pre .0, room-right (s .args .text .now) 0 (head s) (lines s) (room s) (p .put-header .ensures)))
+    (λ c κs. let s = c .before .before .before in omega (arith, room-left (head s) (lines s) (s .args .text .now) 0 (room s)))
+    (λ c κs. let p = c .before .before .before in let s = p .before .before .before .before in room-right (head s) (lines s)
+    (s .args .text .now) 0 (room s) (p .put-header .ensures))
     (λ c. search needs)
     returns)

@@ -5,11 +5,11 @@ use Prim.Native.Nat.{ℕ, _+_, _≤_}
 use native.Mathlib.Omega.{arith}
 use borrow.Author.Needs.{needs}
 use lib.ListN.{length}
-use Rattle.laws.specs.Decimals.{decimal}
-use Rattle.dimacs.specs.Words.{literalOf}
-use Rattle.dimacs.specs.Written.{Wrote}
-use Rattle.dimacs.proofs.Laws.Sizes.{zero-text, plain-text, negated-text}
-use Rattle.dimacs.proofs.Laws.Writing.{room-left, room-right, wrote-both}
+use Rattle.laws.specs.Lists.{Stored}
+use Rattle.laws.proofs.Stored.{room-right, stored-both, stored-as}
+use Rattle.text.specs.Decimals.{decimal}
+use Rattle.clausebytes.specs.Words.{literalOf}
+use Rattle.dimacs.proofs.Laws.Written.{zero-text, plain-text, negated-text}
 use Rattle.dimacs.proofs.writer.put_word.Statement.{statement}
 use Rattle.dimacs.proofs.writer.put_word.Tie as tie
 
@@ -35,14 +35,21 @@ negated-room c =
     subst (Room s) (negated-text (s .args .word) (c .before .if1 .left) (c .if2 .left)) (s .pre)
 
 -- a zero
+zero-again : tie.Need-put-byte-requires-2
+zero-again c κs =
+    let p = c .before .before .before in
+    let then = p .before .before in
+    let x = then .before .before .args in
+    omega (arith, room-right (48 ∷ []) (10 ∷ []) (x .text .now) (x .at) (zero-room then) (p .put-byte .ensures))
+
 returns : tie.Need-returns
 returns c =
     let q = c .before .before in
     let p = q .before .before .before .before in
     let then = p .before .before in
     let x = then .before .before .args in
-    rw (zero-text (x .word) (then .if1 .taken)) (wrote-both (x .text .now) (x .at) (48 ∷ []) (10 ∷ []) (zero-room then) (p .put-byte .ensures)
-    (q .put-byte2 .ensures))
+    stored-as (zero-text (x .word) (then .if1 .taken))
+    (stored-both (48 ∷ []) (10 ∷ []) (x .text .now) (x .at) (zero-room then) (p .put-byte .ensures) (q .put-byte2 .ensures))
 
 -- a plain literal
 returns-2 : tie.Need-returns-2
@@ -50,11 +57,19 @@ returns-2 c =
     let p = c .before .before in
     let then = p .before .before .before in
     let x = then .before .before .before .args in
-    let w = subst (λ (n : ℕ). Wrote (x .text .now) (x .at) (decimal n ++ (32 ∷ [])) (p .put-field .last .0) (p .put-field .result))
+    let w = subst (λ (n : ℕ). Stored (decimal n ++ (32 ∷ [])) (x .text .now) (x .at) (p .put-field .result) (p .put-field .last .0))
     (p .before .magnitude .ensures) (p .put-field .ensures) in
-    rw (plain-text (x .word) (then .before .if1 .left) (then .if2 .taken)) w
+    stored-as (plain-text (x .word) (then .before .if1 .left) (then .if2 .taken)) w
 
 -- a negated one
+negated-field : tie.Need-put-field-requires-2
+negated-field c κs =
+    let p = c .before .before .before .before in
+    let else = p .before .before in
+    let s = else .before .before .before in
+    rw (c .magnitude2 .ensures) (room-right (45 ∷ []) (field s) (s .args .text .now) (s .args .at) (negated-room else)
+    (p .put-byte3 .ensures))
+
 returns-3 : tie.Need-returns-3
 returns-3 c =
     let q = c .before .before in
@@ -62,32 +77,25 @@ returns-3 c =
     let p = m .before .before .before .before in
     let else = p .before .before in
     let s = else .before .before .before in
-    let w = subst (λ (n : ℕ). Wrote (p .put-byte3 .last .0) (p .put-byte3 .result) (decimal n ++ (32 ∷ [])) (q .put-field2 .last .0)
-    (q .put-field2 .result)) (m .magnitude2 .ensures) (q .put-field2 .ensures) in
-    rw (negated-text (s .args .word) (else .before .if1 .left) (else .if2 .left))
-    (wrote-both (s .args .text .now) (s .args .at) (45 ∷ []) (field s) (negated-room else) (p .put-byte3 .ensures) w)
+    let w = subst (λ (n : ℕ). Stored (decimal n ++ (32 ∷ [])) (p .put-byte3 .last .0) (p .put-byte3 .result) (q .put-field2 .result)
+    (q .put-field2 .last .0)) (m .magnitude2 .ensures) (q .put-field2 .ensures) in
+    stored-as (negated-text (s .args .word) (else .before .if1 .left) (else .if2 .left))
+    (stored-both (45 ∷ []) (field s) (s .args .text .now) (s .args .at) (negated-room else) (p .put-byte3 .ensures) w)
 
 pub put-word-spec : {M : Type 1} → statement M
 put-word-spec =
     tie.close
     (tie.spec
     (λ c κs. omega (arith, zero-room (c .before)))
-    (λ c κs. let p = c .before .before .before in omega (
-      arith,
-      room-right (p .before .before .before .before .args .text .now)
-          (p .before .before .before .before .args .at) (48 ∷ []) (10 ∷ []) (zero-room (p .before .before)) (p .put-byte .ensures),
-    ))
+    zero-again
     (λ c. search needs)
     returns
     (λ c κs. search needs)
     (λ c κs. rw (c .magnitude .ensures) (plain-room (c .before .before)))
     (λ c. search needs)
     returns-2
-    (λ c κs. let e = c .before in let s = e .before .before .before in omega
-    (arith, room-left (s .args .text .now) (s .args .at) (45 ∷ []) (field s) (negated-room e)))
+    (λ c κs. omega (arith, negated-room (c .before)))
     (λ c κs. search needs)
-    (λ c κs. let p = c .before .before .before .before in let e = p .before .before in let s =
-    e .before .before .before in rw (c .magnitude2 .ensures)
-    (room-right (s .args .text .now) (s .args .at) (45 ∷ []) (field s) (negated-room e) (p .put-byte3 .ensures)))
+    negated-field
     (λ c. search needs)
     returns-3)

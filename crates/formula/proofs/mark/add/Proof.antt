@@ -1,5 +1,4 @@
 -- `formula::mark::add` meets its contract: one store, or none past the last node. Assumes nothing.
-use mathlib.Core.Path.{_≡_, refl, sym, ap, _∙_}
 use borrow.Author.Needs.{needs}
 use borrow.Author.Tests.{lt-ltb, le-ltb}
 use Rattle.formula.proofs.mark.add.Statement.{statement}
@@ -8,7 +7,7 @@ use Rattle.formula.proofs.mark.add.Tie as tie
 stored : tie.Need-returns
 stored c =
     let read = c .before .before in
-    rw (lt-ltb _ _ (read .before .before .before .if1 .taken), c .byte-of .ensures, c .before .join .ensures, read .read .ensures)
+    rw (lt-ltb _ _ (read .before .before .if1 .taken), c .byte-of .ensures, c .before .join .ensures, read .read .ensures)
 
 kept : tie.Need-returns-2
 kept c = rw (le-ltb _ _ (c .if1 .left))

@@ -2,8 +2,8 @@
 use mathlib.Core.Path.{ap, _∙_}
 use borrow.Author.Needs.{needs}
 use Rattle.formula.specs.Marks.{joined}
-use Rattle.formula.specs.declared.mark.Mark.{Mark}
 use Rattle.formula.proofs.mark.double.Statement.{statement}
+use Rattle.formula.specs.declared.mark.Mark.{Mark}
 use Rattle.formula.proofs.mark.double.Tie as tie
 
 pub double-spec : {M : Type 1} → statement M

@@ -1,5 +1,4 @@
 -- `formula::mark::pass` meets its contract: both children are marked, by the mark that the node had before. Assumes nothing.
-use mathlib.Core.Path.{_≡_, refl, sym, ap, _∙_}
 use borrow.Author.Needs.{needs}
 use Rattle.formula.proofs.mark.pass.Statement.{statement}
 use Rattle.formula.proofs.mark.pass.Tie as tie

@@ -2,8 +2,8 @@
 use mathlib.Core.Path.{sym, ap, _∙_}
 use borrow.Author.Needs.{needs}
 use Rattle.formula.specs.Marks.{toA}
-use Rattle.formula.specs.declared.node.Kind.{Kind}
 use Rattle.formula.proofs.mark.to_a.Statement.{statement}
+use Rattle.formula.specs.declared.node.Kind.{Kind}
 use Rattle.formula.proofs.mark.to_a.Tie as tie
 
 turned-not : tie.Need-returns-4

@@ -2,8 +2,8 @@
 use mathlib.Core.Path.{sym, ap, _∙_}
 use borrow.Author.Needs.{needs}
 use Rattle.formula.specs.Marks.{toB}
-use Rattle.formula.specs.declared.node.Kind.{Kind}
 use Rattle.formula.proofs.mark.to_b.Statement.{statement}
+use Rattle.formula.specs.declared.node.Kind.{Kind}
 use Rattle.formula.proofs.mark.to_b.Tie as tie
 
 doubled-equivalent : tie.Need-returns-8

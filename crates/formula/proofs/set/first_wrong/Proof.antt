@@ -6,7 +6,7 @@ use native.Mathlib.Omega.{arith}
 use borrow.Author.Needs.{needs}
 use borrow.Author.Tests.{not-true, not-false}
 use lib.ListN.{length}
-use Rattle.laws.specs.First.{first}
+use Rattle.laws.specs.Lists.{first}
 use Rattle.laws.proofs.First.{Looking, looking-start, looking-more, looking-here, looking-end}
 use Rattle.formula.specs.Nodes.{nodeCount, nodesOf}
 use Rattle.formula.specs.Sets.{byteRight}
@@ -22,26 +22,25 @@ abbrev μ-loop : tie.MeasureT-loop
 
 asked : tie.Need-is-byte-right-requires Inv-loop μ-loop
 asked c κs =
-    let toward-start = c .before .before .before .before in
-    let start = toward-start .before in
-    (start .pre .0, (start .pre .1 .0, (omega arith, omega arith)))
+    let start = c .before .before .before .before in
+    (record { marked = start .pre .0; inside = omega arith }, omega arith)
+
+-- the loop counts the nodes of the list
+count : (c : tie.At-loop Inv-loop μ-loop) → let t = c .before .before .before .args .table .now in length (nodesOf t) ≡ nodeCount t
+count c = length-nodesOf (c .before .before .before .args .table .now)
 
 wrong : tie.Need-returns Inv-loop μ-loop
 wrong c =
     let loop = c .before .before .before in
-    looking-here _ _ (loop .loop .i) (loop .loop .inv) (omega (arith, length-nodesOf (loop .before .before .before .before .args .table .now)))
-    (sym (c .before .is-byte-right .ensures) ∙ not-true _ (c .if1 .taken))
+    looking-here _ _ (loop .loop .i) (loop .loop .inv) (omega (arith, count loop)) (sym (c .before .is-byte-right .ensures) ∙ not-true _ (c .if1 .taken))
 
 right : tie.Need-loop-again Inv-loop μ-loop
 right c =
     let loop = c .before .before .before in
-    looking-more _ _ (loop .loop .i) (loop .loop .inv) (omega (arith, length-nodesOf (loop .before .before .before .before .args .table .now)))
-    (sym (c .before .is-byte-right .ensures) ∙ not-false _ (c .if1 .left))
+    looking-more _ _ (loop .loop .i) (loop .loop .inv) (omega (arith, count loop)) (sym (c .before .is-byte-right .ensures) ∙ not-false _ (c .if1 .left))
 
 none : tie.Need-returns-2 Inv-loop μ-loop
-none c =
-    let loop = c .before in
-    looking-end _ _ (loop .loop .i) (loop .loop .inv) (omega (arith, length-nodesOf (loop .before .before .before .before .args .table .now)))
+none c = looking-end _ _ (c .before .loop .i) (c .before .loop .inv) (omega (arith, count (c .before)))
 
 pub first-wrong-spec : {M : Type 1} → statement M
 first-wrong-spec =

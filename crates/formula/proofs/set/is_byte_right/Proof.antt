@@ -1,5 +1,4 @@
 -- `formula::set::is_byte_right` meets its contract: 0, or 1 where the node may be renamed. Assumes nothing.
-use mathlib.Core.Path.{_≡_, refl, sym, ap, _∙_}
 use borrow.Author.Needs.{needs}
 use borrow.Author.Tests.{eq-eqb, ne-eqb}
 use Rattle.formula.proofs.set.is_byte_right.Statement.{statement}

@@ -1,46 +1,59 @@
 -- `formula::table::check` meets its contract: the tests stand in the order of the refusals. Assumes nothing.
-use mathlib.Core.Path.{_≡_, refl, sym, ap, _∙_}
+use mathlib.Core.Path.{sym, _∙_}
 use native.Mathlib.Omega.{arith}
+use lib.ListN.{length}
 use borrow.Author.Needs.{needs}
-use borrow.Author.Tests.{eq-eqb, ne-eqb, lt-ltb, le-ltb}
+use borrow.Author.Tests.{lt-ltb, le-ltb}
+use Rattle.formula.proofs.Laws.WellFormed.{right-length}
 use Rattle.formula.proofs.table.check.Statement.{statement}
 use Rattle.formula.proofs.table.check.Tie as tie
 
-empty : tie.Need-returns
-empty c = rw (eq-eqb _ 0 (c .if1 .taken))
+length-wrong : tie.Need-returns
+length-wrong c = rw (← c .before .is-length-wrong .ensures, c .if1 .taken)
 
-uneven : tie.Need-returns-2
-uneven c = rw (ne-eqb _ 0 (c .before .if1 .left), ne-eqb _ 0 (c .if2 .taken))
+options : tie.Need-returns-2
+options c =
+    let if1 = c .before in
+    rw (← if1 .before .is-length-wrong .ensures, if1 .if1 .left, c .if2 .taken)
 
-long : tie.Need-returns-3
-long c = rw (ne-eqb _ 0 (c .before .before .if1 .left), eq-eqb _ 0 (c .before .if2 .left), lt-ltb _ _ (c .if3 .taken))
+short : tie.Need-first-wrong-requires
+short c κs =
+    let if1 = c .before in
+    right-length _ (sym (if1 .before .is-length-wrong .ensures) ∙ if1 .if1 .left) .most
 
-options : tie.Need-returns-4
-options c = rw (ne-eqb _ 0 (c .before .before .before .if1 .left), eq-eqb _ 0 (c .before .before .if2 .left), le-ltb _ _ (c .before .if3 .left), lt-ltb _ _ (c .if4 .taken))
+node-fits : tie.Need-cast-t11
+node-fits c =
+    let found = c .before .before .before in
+    let if1 = found .before .before in
+    let t = if1 .before .before .before .args .table .now in
+    let most = right-length (length t) (sym (if1 .before .is-length-wrong .ensures) ∙ if1 .if1 .left) .most in
+    omega (arith, most, c .before .before .if3 .taken)
 
-record-wrong : tie.Need-returns-5
+record-wrong : tie.Need-returns-3
 record-wrong c =
     let found = c .before .before .before in
-    let if4 = found .before in
-    rw (ne-eqb _ 0 (if4 .before .before .before .if1 .left), eq-eqb _ 0 (if4 .before .before .if2 .left), le-ltb _ _ (if4 .before .if3 .left), le-ltb _ _ (if4 .if4 .left), ← found .first-wrong .ensures, lt-ltb _ _ (c .before .before .if5 .taken), c .fault .ensures, c .before .node-at .ensures)
+    let if2 = found .before in
+    let if1 = if2 .before in
+    rw (← if1 .before .is-length-wrong .ensures, if1 .if1 .left, if2 .if2 .left, ← found .first-wrong .ensures, lt-ltb _ _ (c .before .before .if3 .taken))
+    (rw (c .fault .ensures, c .before .node-at .ensures))
 
-accepted : tie.Need-returns-6
+accepted : tie.Need-returns-4
 accepted c =
-    let if4 = c .before .before in
-    rw (ne-eqb _ 0 (if4 .before .before .before .if1 .left), eq-eqb _ 0 (if4 .before .before .if2 .left), le-ltb _ _ (if4 .before .if3 .left), le-ltb _ _ (if4 .if4 .left), ← c .before .first-wrong .ensures, le-ltb _ _ (c .if5 .left))
+    let found = c .before in
+    let if2 = found .before in
+    let if1 = if2 .before in
+    rw (← if1 .before .is-length-wrong .ensures, if1 .if1 .left, if2 .if2 .left, ← found .first-wrong .ensures, le-ltb _ _ (c .if3 .left))
 
 pub check-spec : {M : Type 1} → statement M
 check-spec =
     tie.close
     (tie.spec
-    empty
-    uneven
-    (λ c. search needs)
-    long
+    (λ c κs. search needs)
+    length-wrong
     options
+    short
     (λ c κs. search needs)
     (λ c κs. search needs)
-    (λ c κs. search needs)
-    (λ c. omega arith)
+    node-fits
     record-wrong
     accepted)

@@ -9,8 +9,8 @@ use Rattle.laws.proofs.First.{Looking, looking-start, looking-more, looking-her
 use Rattle.formula.specs.Checks.{recordRight}
 use Rattle.formula.specs.Nodes.{nodeCount, nodeAt}
 use Rattle.formula.specs.Records.{faultOf}
-use Rattle.formula.specs.declared.node.Node.{Node}
 use Rattle.formula.proofs.table.first_wrong.Statement.{statement}
+use Rattle.formula.specs.declared.node.Node.{Node}
 use Rattle.formula.proofs.table.first_wrong.Tie as tie
 
 abbrev Inv-loop : tie.InvT-loop

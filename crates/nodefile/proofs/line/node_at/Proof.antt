@@ -1,7 +1,7 @@
 -- `nodefile::line::node_at` meets its contract: the line ends at the next newline. Assumes nothing.
 use mathlib.Core.Path.{sym, _∙_}
 use borrow.Author.Needs.{needs}
-use Rattle.nodefile.specs.Steps.{nodeTest}
+use Rattle.nodefile.specs.Inner.Steps.{nodeTest}
 use Rattle.nodefile.proofs.Laws.Lines.{next-open, node-over, node-fails, node-is}
 use Rattle.nodefile.proofs.line.node_at.Statement.{statement}
 use Rattle.nodefile.proofs.line.node_at.Tie as tie

@@ -1,13 +1,13 @@
 -- `nodefile::line::node_of` meets its contract: four numbers, each up to its limit, no field more, and the number of
 -- this node. Assumes nothing.
-use mathlib.Core.Path.{subst}
 use mathlib.Core.List.{List, [], _∷_}
 use Prim.Native.Nat.{ℕ}
 use native.Mathlib.Omega.{arith}
 use borrow.Author.Needs.{needs}
-use Rattle.nodefile.specs.Limits.{mostNumber, mostKind}
-use Rattle.nodefile.specs.Steps.{FieldFound, FieldIs}
-use Rattle.nodefile.proofs.Laws.Nodes.{Left, left-start, left-next, number-small}
+use Rattle.text.proofs.Laws.Fields.{number-whole}
+use Rattle.text.proofs.Laws.Pieces.{FieldIs, field-told}
+use Rattle.nodefile.specs.Lines.{tab, mostNumber, mostKind}
+use Rattle.nodefile.proofs.Laws.Nodes.{Left, left-start, left-next}
 use Rattle.nodefile.proofs.Laws.Nodes.{node-number, node-more, node-other, node-right}
 use Rattle.nodefile.proofs.line.node_of.Statement.{statement}
 use Rattle.nodefile.proofs.line.node_of.Tie as tie
@@ -50,19 +50,18 @@ abbrev fifth : tie.After-b → ℕ
 fifth c = c .b .given .0 .1 .0
 
 -- what was read there
-number-read : (c : tie.After-number) → FieldIs (line (from-number c)) 0 mostNumber (c .number .given .0 .0) (second c)
-number-read c =
-    subst (FieldFound (line (from-number c)) 0 mostNumber) (c .number .given .1) (c .before .before .number-at .ensures)
+number-read : (c : tie.After-number) → FieldIs tab mostNumber (line (from-number c)) 0 (c .number .given .0 .0) (second c)
+number-read c = field-told tab mostNumber (line (from-number c)) 0 (c .before .before .number-at .ensures) (c .number .given .1)
 
 kind-read : (c : tie.After-kind)
-    → FieldIs (line (from-kind c)) (second (number-of c)) mostKind (c .kind .given .0 .0) (third c)
-kind-read c = subst (FieldFound (line (from-kind c)) _ mostKind) (c .kind .given .1) (c .before .before .number-at2 .ensures)
+    → FieldIs tab mostKind (line (from-kind c)) (second (number-of c)) (c .kind .given .0 .0) (third c)
+kind-read c = field-told tab mostKind (line (from-kind c)) _ (c .before .before .number-at2 .ensures) (c .kind .given .1)
 
-a-read : (c : tie.After-a) → FieldIs (line (from-a c)) (third (kind-of c)) mostNumber (c .a .given .0 .0) (fourth c)
-a-read c = subst (FieldFound (line (from-a c)) _ mostNumber) (c .a .given .1) (c .before .before .number-at3 .ensures)
+a-read : (c : tie.After-a) → FieldIs tab mostNumber (line (from-a c)) (third (kind-of c)) (c .a .given .0 .0) (fourth c)
+a-read c = field-told tab mostNumber (line (from-a c)) _ (c .before .before .number-at3 .ensures) (c .a .given .1)
 
-b-read : (c : tie.After-b) → FieldIs (line (from-b c)) (fourth (a-of c)) mostNumber (c .b .given .0 .0) (fifth c)
-b-read c = subst (FieldFound (line (from-b c)) _ mostNumber) (c .b .given .1) (c .before .before .number-at4 .ensures)
+b-read : (c : tie.After-b) → FieldIs tab mostNumber (line (from-b c)) (fourth (a-of c)) (c .b .given .0 .0) (fifth c)
+b-read c = field-told tab mostNumber (line (from-b c)) _ (c .before .before .number-at4 .ensures) (c .b .given .1)
 
 -- what is left to decide there
 left-number : (c : tie.After-number) → Left (line (from-number c)) (mostKind ∷ mostNumber ∷ mostNumber ∷ []) (second c)
@@ -83,7 +82,7 @@ returns c =
     let read = c .before .before in
     let s = read .before .before in
     node-number (s .args .node) (line s) (left-start (line s))
-    (subst (FieldFound (line s) 0 mostNumber) (c .enum-told .given .1) (read .number-at .ensures))
+    (field-told tab mostNumber (line s) 0 (read .number-at .ensures) (c .enum-told .given .1))
 
 returns-2 : tie.Need-returns-2
 returns-2 c =
@@ -91,7 +90,7 @@ returns-2 c =
     let number = read .before .before in
     let s = from-number number in
     node-number (s .args .node) (line s) (left-number number)
-    (subst (FieldFound (line s) _ mostKind) (c .enum-told2 .given .1) (read .number-at2 .ensures))
+    (field-told tab mostKind (line s) _ (read .number-at2 .ensures) (c .enum-told2 .given .1))
 
 returns-3 : tie.Need-returns-3
 returns-3 c =
@@ -99,7 +98,7 @@ returns-3 c =
     let kind = read .before .before in
     let s = from-kind kind in
     node-number (s .args .node) (line s) (left-kind kind)
-    (subst (FieldFound (line s) _ mostNumber) (c .enum-told3 .given .1) (read .number-at3 .ensures))
+    (field-told tab mostNumber (line s) _ (read .number-at3 .ensures) (c .enum-told3 .given .1))
 
 returns-4 : tie.Need-returns-4
 returns-4 c =
@@ -107,7 +106,7 @@ returns-4 c =
     let a = read .before .before in
     let s = from-a a in
     node-number (s .args .node) (line s) (left-a a)
-    (subst (FieldFound (line s) _ mostNumber) (c .enum-told4 .given .1) (read .number-at4 .ensures))
+    (field-told tab mostNumber (line s) _ (read .number-at4 .ensures) (c .enum-told4 .given .1))
 
 -- a field more
 returns-5 : tie.Need-returns-5
@@ -130,7 +129,7 @@ returns-6 c =
 fits : tie.Need-cast-t17
 fits c =
     let f = kind-read (kind-of (a-of (c .before .before .before))) in
-    omega (arith, f .same, number-small mostKind (f .piece) (f .number))
+    omega (arith, f .same, number-whole mostKind (f .piece) (f .number) .1)
 
 returns-7 : tie.Need-returns-7
 returns-7 c =
@@ -164,4 +163,6 @@ node-of-spec =
     returns-5
     returns-6
     fits
+    (λ c. omega arith)
+    (λ c. omega arith)
     returns-7)

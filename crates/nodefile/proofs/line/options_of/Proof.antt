@@ -1,13 +1,13 @@
 -- `nodefile::line::options_of` meets its contract: the word, a number, and no field more. Assumes nothing.
-use mathlib.Core.Path.{_≡_, sym, _∙_, subst}
+use mathlib.Core.Path.{_≡_, sym, _∙_}
 use mathlib.Core.Bool.{true}
 use borrow.Author.Needs.{needs}
 use borrow.Author.Tests.{not-true, not-false}
 use lib.ListN.{length, take}
 use lib.Seq.{length-take-le}
-use Rattle.nodefile.specs.Limits.{mostNumber, optionsWord}
-use Rattle.nodefile.specs.Lines.{same}
-use Rattle.nodefile.specs.Steps.{FieldFound}
+use Rattle.text.specs.Decimals.{same}
+use Rattle.text.proofs.Laws.Pieces.{field-told}
+use Rattle.nodefile.specs.Lines.{tab, mostNumber, optionsWord}
 use Rattle.nodefile.proofs.Laws.Options.{options-word, options-number, options-more, options-right}
 use Rattle.nodefile.proofs.line.options_of.Statement.{statement}
 use Rattle.nodefile.proofs.line.options_of.Tie as tie
@@ -40,7 +40,7 @@ returns-2 c =
     let m = mark (word .before) in
     let line = m .before .before .args .line .now in
     options-more line (m .find .result) (m .find .ensures) (worded word)
-    (subst (FieldFound line _ mostNumber) (value .value .given .1) (read .number-at .ensures)) (c .if2 .taken)
+    (field-told tab mostNumber line _ (read .number-at .ensures) (value .value .given .1)) (c .if2 .taken)
 
 -- no number
 returns-3 : tie.Need-returns-3
@@ -50,7 +50,7 @@ returns-3 c =
     let m = mark (word .before) in
     let line = m .before .before .args .line .now in
     options-number line (m .find .result) (m .find .ensures) (worded word)
-    (subst (FieldFound line _ mostNumber) (c .enum-told .given .1) (read .number-at .ensures))
+    (field-told tab mostNumber line _ (read .number-at .ensures) (c .enum-told .given .1))
 
 -- the option count
 returns-4 : tie.Need-returns-4
@@ -61,7 +61,7 @@ returns-4 c =
     let m = mark (word .before) in
     let line = m .before .before .args .line .now in
     options-right line (m .find .result) (m .find .ensures) (worded word)
-    (subst (FieldFound line _ mostNumber) (value .value .given .1) (read .number-at .ensures)) (c .if2 .left)
+    (field-told tab mostNumber line _ (read .number-at .ensures) (value .value .given .1)) (c .if2 .left)
 
 pub options-of-spec : {M : Type 1} → statement M
 options-of-spec =

@@ -4,75 +4,84 @@ use mathlib.Core.Path.{_≡_, refl, sym, ap, _∙_}
 use Prim.Native.Nat.{ℕ, _≤_, _-_}
 use native.Mathlib.Omega.{arith}
 use lib.ListN.{length}
-use Rattle.formula.specs.Marks.{marksOf, markOf, heldAt}
+use Rattle.formula.specs.Inner.Held.{heldAt}
+use Rattle.formula.specs.Marks.{marksOf}
 use Rattle.formula.specs.Nodes.{nodeCount, nodesOf}
+use Rattle.formula.specs.Sets.{renamed}
 use Rattle.formula.proofs.Laws.Held.{heldAt-held}
 use Rattle.formula.proofs.Laws.Tables.{length-nodesOf}
 use Rattle.clausal.specs.Algebra.{Row}
-use Rattle.clausal.specs.Helpers.{renamed}
+use Rattle.clausal.specs.Renamings.{renaming, nameOf}
 use Rattle.clausal.specs.Rows.{rowOf}
 use Rattle.clausal.specs.Totals.{Size, capped}
-use Rattle.totals.specs.Columns.{rowIn, rowTotals}
-use Rattle.totals.specs.Sized.{sized}
-use Rattle.totals.specs.Whole.{withNode}
-use Rattle.totals.proofs.Laws.Columns.{rowIn-columns}
-use Rattle.totals.proofs.Laws.Whole.{wholeTo, whole-start, whole-more}
+use Rattle.totals.specs.Inner.Sized.{sized, asTotal, rowed}
+use Rattle.totals.specs.Inner.Sums.{withNode}
+use Rattle.totals.proofs.Laws.Columns.{ready-row}
+use Rattle.totals.proofs.Laws.Sums.{wholeTo, whole-start, whole-more}
 use Rattle.totals.proofs.whole.whole.Statement.{statement}
 use Rattle.totals.proofs.whole.whole.Tie as tie
 
 abbrev Inv-loop : tie.InvT-loop
-Inv-loop table marks set p-clauses p-literals n-clauses n-literals count sum₀ i₀ sum i =
-    (i ≤ nodeCount table) × (sized sum ≡ wholeTo capped 0 set (nodesOf table) i)
+Inv-loop table marks set from clauses literals count sum₀ i₀ sum i =
+    (i ≤ nodeCount table) × (sum ≡ asTotal (wholeTo capped (renaming 0 set) (nodesOf table) i))
 
 abbrev μ-loop : tie.MeasureT-loop
-μ-loop table marks set p-clauses p-literals n-clauses n-literals count sum₀ i₀ sum i = count - i
+μ-loop table marks set from clauses literals count sum₀ i₀ sum i = count - i
 
 loop-holds : tie.Need-loop-holds Inv-loop μ-loop
 loop-holds c =
-    let root = c .before .before .before in
-    let toward-start = root .before .before .before .before in
-    let start = toward-start .before .before .before .before in
+    let root = c .before .before in
+    let start = root .before .before .before in
     let s = start .args .set .now in
-    let ns = nodesOf (start .args .table .now) in
-    let own : sized (root .row-at .result .p) ≡ rowOf capped 0 s ns (length ns - 1) .P =
-    ap (λ (r : Row Size). r .P) (root .row-at .ensures ∙ rowIn-columns _ (rowTotals s ns) _ (start .pre .1 .1 .all))
-    ∙ ap (λ (k : ℕ). rowOf capped 0 s ns (k - 1) .P) (sym (length-nodesOf (start .args .table .now))) in
-    (omega arith, c .cat .ensures ∙ (λ i. capped .cat (sized (c .before .none .ensures i)) (own i)) ∙ whole-start capped 0 s ns)
+    let t = start .args .table .now in
+    let ns = nodesOf t in
+    let row : rowed (root .row-at .result) ≡ rowOf capped (nameOf (renaming 0 s)) ns (length ns - 1) =
+    ap rowed (root .row-at .ensures)
+    ∙ ready-row s ns _ _ _ (omega (arith, length-nodesOf t)) (start .pre .ready) _
+    ∙ ap (λ (k : ℕ). rowOf capped (nameOf (renaming 0 s)) ns (k - 1)) (sym (length-nodesOf t)) in (
+      start .pre .within,
+      c .cat .ensures
+          ∙ (λ i. asTotal (capped .cat (sized (c .before .none .ensures i)) (row i .P)))
+          ∙ ap asTotal (whole-start capped (renaming 0 s) ns _ (start .pre .low)),
+    )
 
 loop-again : tie.Need-loop-again Inv-loop μ-loop
 loop-again c =
     let loop = c .before .before in
-    let root = loop .before .before .before .before in
-    let toward-start = root .before .before .before .before in
-    let start = toward-start .before .before .before .before in
+    let toward-start = loop .before .before .before .before in
+    let start = toward-start .before .before in
     let s = start .args .set .now in
     let ns = nodesOf (start .args .table .now) in
     let i = loop .loop .i in
-    let mark = ap (λ l. heldAt l i) (start .pre .1 .0) ∙ heldAt-held (marksOf ns) i in
-    let row = rowIn-columns _ (rowTotals s ns) i (start .pre .1 .1 .all) in (
+    let mark = ap (λ l. heldAt l i) (start .pre .marked .are) ∙ heldAt-held (marksOf ns) i in
+    let row = ready-row s ns _ _ _ (omega (arith, length-nodesOf (start .args .table .now))) (start .pre .ready) i in (
       omega arith,
       c .with-node .ensures
-          ∙ (λ j. withNode capped (renamed s i) 0 (mark j) (row j) (loop .loop .inv .1 j))
-          ∙ sym (whole-more capped 0 s ns i),
+          ∙ (λ j. asTotal (withNode capped (renamed s i) 0 (mark j) (row j) (sized (loop .loop .inv .1 j))))
+          ∙ ap asTotal (sym (whole-more capped (renaming 0 s) ns i)),
     )
 
-add-i : tie.Need-add-i Inv-loop μ-loop
-add-i c =
-    let loop = c .before .before in
-    let root = loop .before .before .before .before in
-    let toward-start = root .before .before .before .before in
-    let start = toward-start .before .before .before .before in
-    omega (arith, start .good .0 .0)
+inside : tie.Need-with-node-requires Inv-loop μ-loop
+inside c κs =
+    let toward-start = c .before .before .before .before in
+    let start = toward-start .before .before .before in
+    omega (arith, start .pre .marked .size .most)
 
 returns : tie.Need-returns Inv-loop μ-loop
 returns c =
     let loop = c .before in
-    let root = loop .before .before .before .before in
-    let toward-start = root .before .before .before .before in
-    let start = toward-start .before .before .before .before in
+    let toward-start = loop .before .before .before .before in
+    let start = toward-start .before .before in
     let t = start .args .table .now in
     let e : loop .loop .i ≡ length (nodesOf t) = omega (arith, length-nodesOf t) in
-    loop .loop .inv .1 ∙ ap (wholeTo capped 0 (start .args .set .now) (nodesOf t)) e
+    loop .loop .inv .1 ∙ ap (λ (k : ℕ). asTotal (wholeTo capped (renaming 0 (start .args .set .now)) (nodesOf t) k)) e
+
+add-i : tie.Need-add-i Inv-loop μ-loop
+add-i c =
+    let loop = c .before .before in
+    let toward-start = loop .before .before .before .before in
+    let start = toward-start .before .before in
+    omega (arith, start .pre .marked .size .most)
 
 pub whole-spec : {M : Type 1} → statement M
 whole-spec =
@@ -80,12 +89,12 @@ whole-spec =
     (tie.spec
     Inv-loop
     μ-loop
-    (λ c. omega arith)
-    (λ c κs. tt)
+    (λ c. omega (arith, c .before .before .pre .marked .size .some))
+    (λ c κs. omega (arith, c .before .before .pre .marked .size .most))
     (λ c κs. tt)
     (λ c κs. tt)
     loop-holds
-    (λ c κs. tt)
+    inside
     add-i
     (λ c. omega arith)
     loop-again

@@ -1,10 +1,10 @@
 -- `totals::whole::with_node` meets its contract: a definition where the node is renamed, else nothing. Assumes nothing.
-use mathlib.Core.Path.{_≡_, sym, ap, _∙_}
+use mathlib.Core.Path.{_∙_}
 use borrow.Author.Needs.{needs}
 use borrow.Author.Tests.{not-true, not-false}
 use Rattle.clausal.specs.Totals.{capped}
-use Rattle.totals.specs.Sized.{sized}
-use Rattle.totals.specs.Whole.{withDefinition}
+use Rattle.totals.specs.Inner.Sized.{sized, asTotal, rowed}
+use Rattle.totals.specs.Inner.Sums.{withDefinition}
 use Rattle.totals.proofs.whole.with_node.Statement.{statement}
 use Rattle.totals.proofs.whole.with_node.Tie as tie
 
@@ -13,14 +13,14 @@ plain c = rw (← c .before .is-renamed .ensures, not-true (c .before .is-rename
 
 defined : tie.Need-returns-2
 defined c =
-    let read = c .before in
-    let row = read .before in
-    let if1 = row .before in
+    let row = c .before in
+    let read = row .before in
+    let if1 = read .before in
     let renamed = if1 .before in
-    let toward-sum = renamed .before .before .before .before in
-    let sum = toward-sum .before .before .before .args .sum in
+    let sum = sized (renamed .before .before .args .sum) in
     rw (← renamed .is-renamed .ensures, not-false (renamed .is-renamed .result) (if1 .if1 .left))
-    (c .with-definition .ensures ∙ (λ i. withDefinition capped 0 (read .read .ensures i) (row .row-at .ensures i) (sized sum)))
+    (c .with-definition .ensures
+    ∙ (λ i. asTotal (withDefinition capped 0 (read .read .ensures i) (rowed (row .row-at .ensures i)) sum)))
 
 pub with-node-spec : {M : Type 1} → statement M
 with-node-spec =

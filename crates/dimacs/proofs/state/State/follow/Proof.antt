@@ -1,14 +1,35 @@
 -- `dimacs::state::State::follow` meets its contract: each act does what the definition says. Assumes nothing.
 use mathlib.Core.Path.{_≡_, sym, ap, _∙_}
 use borrow.Author.Needs.{needs}
-use Rattle.dimacs.specs.States.{moveOf}
+use Rattle.dimacs.specs.Inner.States.{begunOf, takenOf, moveOf}
 use Rattle.dimacs.specs.declared.phase.Act.{Act}
+use Rattle.dimacs.specs.declared.phase.Phase.the-variants.{Negated}
 use Rattle.dimacs.proofs.state.State.follow.Statement.{statement}
 use Rattle.dimacs.proofs.state.State.follow.Tie as tie
 
 -- which act is done
-by-act : (s : tie.Start) {x : Act} → s .args .act ≡ x → moveOf (s .args .act) (s .args .self) (s .args .digit) ≡ moveOf x (s .args .self) (s .args .digit)
+by-act : (s : tie.Start) {x : Act} → s .args .act ≡ x
+    → moveOf (s .args .act) (s .args .self) (s .args .digit) ≡ moveOf x (s .args .self) (s .args .digit)
 by-act s e = ap (λ (x : Act). moveOf x (s .args .self) (s .args .digit)) e
+
+begin : tie.Need-returns-4
+begin c =
+    let told = c .before .before in
+    let s = told .before .before in
+    c .begun .ensures ∙ ap (begunOf (s .args .self)) (c .before .grown .ensures) ∙ sym (by-act s (told .enum-told4 .given .1))
+
+lead : tie.Need-returns-6
+lead c =
+    let told = c .before .before in
+    let s = told .before .before in
+    c .taken .ensures ∙ ap (takenOf (s .args .self) Negated) (c .before .grown2 .ensures) ∙ sym (by-act s (told .enum-told6 .given .1))
+
+grow : tie.Need-returns-7
+grow c =
+    let told = c .before .before in
+    let s = told .before .before in
+    c .taken2 .ensures ∙ ap (takenOf (s .args .self) (s .args .self .phase)) (c .before .grown3 .ensures)
+    ∙ sym (by-act s (told .enum-told7 .given .1))
 
 pub follow-spec : {M : Type 1} → statement M
 follow-spec =
@@ -22,45 +43,14 @@ follow-spec =
     (λ c κs. search needs)
     (λ c. search needs)
     (λ c κs. search needs)
-    (λ c. search needs)
     (λ c κs. search needs)
     (λ c. search needs)
     (λ c κs. search needs)
     (λ c. search needs)
     (λ c κs. search needs)
-    (λ c. search needs)
     (λ c κs. search needs)
     (λ c. search needs)
     (λ c κs. search needs)
-    (λ c. search needs)
-    (λ c κs. search needs)
-    (λ c. search needs)
-    (λ c κs. search needs)
-    (λ c. search needs)
-    (λ c κs. search needs)
-    (λ c. search needs)
-    (λ c κs. search needs)
-    (λ c. search needs)
-    (λ c κs. search needs)
-    (λ c. search needs)
-    (λ c κs. search needs)
-    (λ c. search needs)
-    (λ c κs. search needs)
-    (λ c. search needs)
-    (λ c κs. search needs)
-    (λ c. search needs)
-    (λ c κs. search needs)
-    (λ c. search needs)
-    (λ c κs. search needs)
-    (λ c. search needs)
-    (λ c κs. search needs)
-    (λ c. search needs)
-    (λ c κs. search needs)
-    (λ c. search needs)
-    (λ c κs. search needs)
-    (λ c. search needs)
-    (λ c κs. search needs)
-    (λ c. search needs)
     (λ c κs. search needs)
     (λ c. search needs)
     (λ c κs. search needs)
@@ -68,27 +58,10 @@ follow-spec =
     (λ c κs. search needs)
     (λ c. c .dead .ensures ∙ sym (by-act (c .before .before .before) (c .before .enum-told .given .1)))
     (λ c. c .to .ensures ∙ sym (by-act (c .before .before .before) (c .before .enum-told2 .given .1)))
-    (λ c. c .to2 .ensures ∙ sym (by-act (c .before .before .before) (c .before .enum-told3 .given .1)))
-    (λ c. c .to3 .ensures ∙ sym (by-act (c .before .before .before) (c .before .enum-told4 .given .1)))
-    (λ c. c .to4 .ensures ∙ sym (by-act (c .before .before .before) (c .before .enum-told5 .given .1)))
-    (λ c. c .to5 .ensures ∙ sym (by-act (c .before .before .before) (c .before .enum-told6 .given .1)))
-    (λ c. c .to6 .ensures ∙ sym (by-act (c .before .before .before) (c .before .enum-told7 .given .1)))
-    (λ c. c .to7 .ensures ∙ sym (by-act (c .before .before .before) (c .before .enum-told8 .given .1)))
-    (λ c. c .to8 .ensures ∙ sym (by-act (c .before .before .before) (c .before .enum-told9 .given .1)))
-    (λ c. c .to9 .ensures ∙ sym (by-act (c .before .before .before) (c .before .enum-told10 .given .1)))
-    (λ c. c .more .ensures ∙ sym (by-act (c .before .before .before) (c .before .enum-told11 .given .1)))
-    (λ c. c .declare .ensures ∙ sym (by-act (c .before .before .before) (c .before .enum-told12 .given .1)))
-    (λ c. c .to10 .ensures ∙ sym (by-act (c .before .before .before) (c .before .enum-told13 .given .1)))
-    (λ c. c .to11 .ensures ∙ sym (by-act (c .before .before .before) (c .before .enum-told14 .given .1)))
-    (λ c. c .more2 .ensures ∙ sym (by-act (c .before .before .before) (c .before .enum-told15 .given .1)))
-    (λ c. c .promise .ensures ∙ sym (by-act (c .before .before .before) (c .before .enum-told16 .given .1)))
-    (λ c. c .promise2 .ensures ∙ sym (by-act (c .before .before .before) (c .before .enum-told17 .given .1)))
-    (λ c. c .to12 .ensures ∙ sym (by-act (c .before .before .before) (c .before .enum-told18 .given .1)))
-    (λ c. c .to13 .ensures ∙ sym (by-act (c .before .before .before) (c .before .enum-told19 .given .1)))
-    (λ c. c .close .ensures ∙ sym (by-act (c .before .before .before) (c .before .enum-told20 .given .1)))
-    (λ c. c .begin .ensures ∙ sym (by-act (c .before .before .before) (c .before .enum-told21 .given .1)))
-    (λ c. c .turn .ensures ∙ sym (by-act (c .before .before .before) (c .before .enum-told22 .given .1)))
-    (λ c. c .lead .ensures ∙ sym (by-act (c .before .before .before) (c .before .enum-told23 .given .1)))
-    (λ c. c .more3 .ensures ∙ sym (by-act (c .before .before .before) (c .before .enum-told24 .given .1)))
-    (λ c. c .to14 .ensures ∙ sym (by-act (c .before .before .before) (c .before .enum-told25 .given .1)))
-    (λ c. c .to15 .ensures ∙ sym (by-act (c .before .before .before) (c .before .enum-told26 .given .1))))
+    (λ c. c .close .ensures ∙ sym (by-act (c .before .before .before) (c .before .enum-told3 .given .1)))
+    begin
+    (λ c. c .turn .ensures ∙ sym (by-act (c .before .before .before) (c .before .enum-told5 .given .1)))
+    lead
+    grow
+    (λ c. c .to2 .ensures ∙ sym (by-act (c .before .before .before) (c .before .enum-told8 .given .1)))
+    (λ c. c .to3 .ensures ∙ sym (by-act (c .before .before .before) (c .before .enum-told9 .given .1))))

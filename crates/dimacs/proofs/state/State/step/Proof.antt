@@ -2,10 +2,8 @@
 use mathlib.Core.Path.{_≡_, ap, _∙_}
 use Prim.Native.Nat.{ℕ}
 use borrow.Author.Needs.{needs}
-use Rattle.dimacs.specs.Classes.{classOf}
-use Rattle.dimacs.specs.Table.{actOf}
-use Rattle.dimacs.specs.States.{moveOf, stepOf}
-use Rattle.dimacs.specs.Reader.{tokenOf}
+use Rattle.dimacs.specs.Inner.Table.{classOf, actOf, tokenOf}
+use Rattle.dimacs.specs.Inner.States.{moveOf, stepOf}
 use Rattle.dimacs.specs.declared.phase.Act.{Act}
 use Rattle.dimacs.proofs.state.State.step.Statement.{statement}
 use Rattle.dimacs.proofs.state.State.step.Tie as tie

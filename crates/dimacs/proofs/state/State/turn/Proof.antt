@@ -11,4 +11,4 @@ turn-spec =
     (λ c κs. search needs)
     (λ c. rw (eq-eqb _ 0 (c .before .if1 .taken)) (c .dead .ensures))
     (λ c κs. search needs)
-    (λ c. rw (ne-eqb _ 0 (c .before .if1 .left)) (c .enter .ensures)))
+    (λ c. rw (ne-eqb _ 0 (c .before .if1 .left)) (c .open .ensures)))

@@ -1,13 +1,12 @@
 -- `totals::total::Total::cat` meets its contract: the sums, read at the ceilings. Assumes nothing.
-use mathlib.Core.Path.{ap, _∙_}
+use mathlib.Core.Path.{_∙_}
 use borrow.Author.Needs.{needs}
-use Rattle.totals.specs.Sized.{sized}
 use Rattle.totals.proofs.Laws.Stated.{stated-shown}
 use Rattle.totals.proofs.total.Total.cat.Statement.{statement}
 use Rattle.totals.proofs.total.Total.cat.Tie as tie
 
 returns : tie.Need-returns
-returns c = ap sized (c .stated .ensures) ∙ stated-shown _ _ _ _ (c .before .before .add .ensures) (c .before .add2 .ensures)
+returns c = c .stated .ensures ∙ stated-shown _ _ _ _ (c .before .before .add .ensures) (c .before .add2 .ensures)
 
 pub cat-spec : {M : Type 1} → statement M
 cat-spec =

@@ -1,0 +1,2 @@
+-- What only contracts inside the crate cite.
+pub mod Visits

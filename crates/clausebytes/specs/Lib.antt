@@ -1,0 +1,4 @@
+-- Clause bytes, in the order of the rules.
+pub mod Words
+pub mod Right
+pub mod Inner

@@ -1,0 +1,3 @@
+-- What only the contracts of inner functions, and laws, cite.
+pub mod Held
+pub mod Right

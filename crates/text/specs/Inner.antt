@@ -1,0 +1,4 @@
+-- What only the contracts of inner functions cite.
+pub mod Numbers
+pub mod Pieces
+pub mod Heads
