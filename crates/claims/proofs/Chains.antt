@@ -10,10 +10,10 @@ use lib.ListN.{length}
 use borrow.Author.Tests.{lt-ltb, le-ltb}
 use Rattle.laws.specs.Lists.{Every, none, more}
 use Rattle.laws.proofs.Every.{and-both, and-left, and-right}
-use Rattle.formula.specs.Sets.{renamed}
+use Rattle.formula.specs.Checks.{renamed}
 use Rattle.formula.specs.Truths.{formulaTrue}
-use Rattle.clausal.specs.Renamings.{helperOf, variablesOf}
-use Rattle.clausal.specs.Satisfies.{satisfies, Extends, extended}
+use Rattle.clausal.specs.Clauses.{helperOf, variablesOf}
+use Rattle.clausal.specs.Meanings.{satisfies, Extends, extended}
 use Rattle.clausal.proofs.Extended.{extended-option, extended-helper}
 use Rattle.clausal.proofs.Helpers.{helper-above}
 use Rattle.clausal.proofs.Truths.{satisfies-append}

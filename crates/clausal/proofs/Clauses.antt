@@ -12,8 +12,7 @@ use lib.Dec.{ltb}
 use lib.ListN.{length, getD, length-map, List·getD-append}
 use lib.Seq.{getD-append-add}
 use borrow.Author.Tests.{ltb-true, ltb-false}
-use Rattle.clausal.specs.Algebra.{joinAll}
-use Rattle.clausal.specs.Literals.{Clause}
+use Rattle.clausal.specs.Clauses.{joinAll, Clause}
 
 -- a list followed by another
 pub clause-left : (cs ds : List Clause) (k : ℕ) → k < length cs → getD (cs ++ ds) k [] ≡ getD cs k []

@@ -13,15 +13,12 @@ use Rattle.laws.proofs.Upward.{Each, each-at, each-upTo, take-upTo, getD-upTo}
 use Rattle.answer.specs.declared.Answer.the-variants.{Accepted}
 use Rattle.formula.specs.Checks.{checked}
 use Rattle.formula.proofs.Laws.WellFormed.{accepted-well-formed}
-use Rattle.formula.specs.Nodes.{nodesOf, nodeIn}
-use Rattle.formula.specs.Records.{known}
+use Rattle.formula.specs.Tables.{nodesOf, nodeIn, known}
 use Rattle.formula.specs.Inner.Right.{Below}
 use Rattle.formula.specs.Truths.{truthBy, truthFrom, truthsOf, truthOf}
-use Rattle.clausal.specs.Algebra.{Row, rowBy, joinAll, clauses}
-use Rattle.clausal.specs.Literals.{Clause}
+use Rattle.clausal.specs.Clauses.{Row, rowBy, joinAll, clauses, Clause, Renaming}
 use Rattle.clausal.specs.Output.{wholeOf, outputOf}
-use Rattle.clausal.specs.Satisfies.{literalTrue, clauseTrue, satisfies, truths}
-use Rattle.clausal.specs.Renamings.{Renaming}
+use Rattle.clausal.specs.Meanings.{literalTrue, clauseTrue, satisfies, truths}
 use Rattle.clausal.proofs.Related.{Keeps, keeps-of-map, related-whole}
 use Rattle.clausal.proofs.Rows.{ruleAt, rule-same}
 use Rattle.formula.specs.declared.node.Kind.{Kind}

@@ -1,6 +1,6 @@
 // Writing the literals of one clause: each node through its children, whose numbers are lower.
-ghost use Rattle.formula.specs.Nodes.{nodesOf};
-ghost use Rattle.clausal.specs.Literals.{literalBytes};
+ghost use Rattle.formula.specs.Tables.{nodesOf};
+ghost use Rattle.clausal.specs.Clauses.{literalBytes};
 ghost use Rattle.convert.specs.Inner.Lists.{namesIn, ownList, seenList, shownAll};
 ghost use Rattle.convert.specs.Inner.Written.{Due, Put};
 ghost use lib.ListN.{getD};

@@ -1,11 +1,11 @@
 // Converting a formula under a set to clause bytes.
 ghost use mathlib.Core.Path.{_≡_};
 ghost use lib.ListN.{length};
-ghost use Rattle.formula.specs.Nodes.{nodesOf};
+ghost use Rattle.formula.specs.Tables.{nodesOf};
 ghost use Rattle.laws.specs.Lists.{splice};
-ghost use Rattle.clausal.specs.Renamings.{renaming, variablesOf};
+ghost use Rattle.clausal.specs.Clauses.{renaming, variablesOf};
 ghost use Rattle.totals.specs.Inner.Sized.{sized};
-ghost use Rattle.convert.specs.Converted.{takenChecked, convertedUnder, converted, convertedAfter};
+ghost use Rattle.clausal.specs.Calls.{takenChecked, convertedUnder, converted, convertedAfter};
 ghost use Rattle.convert.specs.Inner.Fitted.{fitted, writtenUnder, outputBytes, Convertible, Settled, Measured, Fitting};
 use crate::helper::name_all;
 use crate::part::write_all;

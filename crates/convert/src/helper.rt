@@ -2,7 +2,7 @@
 ghost use mathlib.Core.Bool.{cond};
 ghost use mathlib.Core.Path.{_≡_};
 ghost use lib.ListN.{length};
-ghost use Rattle.clausal.specs.Renamings.{renaming, variablesOf};
+ghost use Rattle.clausal.specs.Clauses.{renaming, variablesOf};
 ghost use Rattle.convert.specs.Inner.Helpers.{helpersOf, Unnamed};
 use formula::set::is_renamed;
 

@@ -1,8 +1,7 @@
 // How clause k of a node is found through its children.
 ghost use mathlib.Core.Path.{_≡_};
 ghost use Prim.Native.Nat.{_<_};
-ghost use Rattle.formula.specs.Limits.{mostNodes};
-ghost use Rattle.formula.specs.Nodes.{nodeAt};
+ghost use Rattle.formula.specs.Tables.{mostNodes, nodeAt};
 ghost use Rattle.convert.specs.Inner.Lists.{signed, pairIn};
 ghost use Rattle.convert.specs.Inner.Steps.{none, literalOf, leftOf, rightOf, bothOf, countIn, catStep, joinStep, joinsStep, stepBy, leadStep, Walkable, Leadable};
 use formula::node::Kind;

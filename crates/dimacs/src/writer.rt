@@ -4,7 +4,7 @@ ghost use Prim.Native.Nat.{_+_, _^_, _<_, _≤_};
 ghost use lib.ListN.{length};
 ghost use Rattle.laws.specs.Lists.{Stored, splice};
 ghost use Rattle.clausebytes.specs.Words.{wordsOf};
-ghost use Rattle.dimacs.specs.Written.{headerLine};
+ghost use Rattle.dimacs.specs.Texts.{headerLine};
 ghost use Rattle.dimacs.specs.Inner.Words.{wordText, wordsText, textOf};
 use clausebytes::word::SIGN;
 use clausebytes::word::magnitude;

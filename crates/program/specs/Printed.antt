@@ -9,21 +9,19 @@ use lib.ListN.{length, replicate}
 use Rattle.laws.specs.Caps.{cap}
 use Rattle.laws.specs.Decimals.{decimal}
 use Rattle.laws.specs.Splices.{splice}
-use Rattle.answer.specs.Numbers.{toldOf, refuses}
-use Rattle.answer.specs.Part.{mostShown}
+use Rattle.answer.specs.Answers.{toldOf, refuses, mostShown}
 use Rattle.answer.specs.declared.Answer.{Answer}
 use Rattle.answer.specs.declared.Answer.the-variants.{Room, ClauseBytes}
 use Rattle.formula.specs.Checks.{checked}
-use Rattle.formula.specs.Nodes.{nodesOf}
-use Rattle.clausal.specs.Choosing.{choose}
+use Rattle.formula.specs.Tables.{nodesOf}
+use Rattle.clausal.specs.Totals.{choose}
 use Rattle.clausal.specs.Helpers.{variablesOf}
-use Rattle.clausal.specs.Literals.{clausesBytes}
+use Rattle.clausal.specs.Clauses.{clausesBytes}
 use Rattle.clausal.specs.Output.{outputOf}
-use Rattle.convert.specs.Converted.{converted}
+use Rattle.clausal.specs.Calls.{converted}
 use Rattle.dimacs.specs.Words.{wrongBytes, clausesOf}
-use Rattle.dimacs.specs.Written.{writtenText}
-use Rattle.nodefile.specs.Files.{fileChecked, fileTable, lineOf}
-use Rattle.nodefile.specs.Lines.{optionCount}
+use Rattle.dimacs.specs.Texts.{writtenText}
+use Rattle.nodefile.specs.Files.{fileChecked, fileTable, lineOf, optionCount}
 
 -- "chooses with allowance 1,024"
 abbrev pub allowance : ℕ

@@ -10,11 +10,11 @@ use contract.Lifetimes.{Lfts}
 use denote.Ref.{now}
 use denote.Triple.Clauses.{AtExit}
 use borrow.Fn.Kinds.{Dens, endedOf, resT}
-use Rattle.formula.specs.Nodes.{nodesOf}
+use Rattle.formula.specs.Tables.{nodesOf}
 use Rattle.formula.specs.declared.node.Node.{Node}
 use Rattle.formula.proofs.Laws.Tables.{length-nodesOf}
-use Rattle.clausal.specs.Choosing.{totalUnder}
-use Rattle.clausal.specs.Renamings.{renaming}
+use Rattle.clausal.specs.Totals.{totalUnder}
+use Rattle.clausal.specs.Clauses.{renaming}
 use Rattle.totals.specs.Inner.Columns.{Ready}
 use Rattle.totals.specs.Inner.Sums.{Tried}
 use Rattle.totals.specs.declared.total.ClauseTotal.{ClauseTotal}

@@ -1,9 +1,8 @@
 // The totals of every node under a set: clauses and literals, for each sign.
 ghost use mathlib.Core.Path.{_≡_};
 ghost use Prim.Native.Nat.{_<_, _≤_};
-ghost use Rattle.formula.specs.Limits.{mostNodes};
-ghost use Rattle.formula.specs.Nodes.{nodeAt, nodeCount, nodesOf};
-ghost use Rattle.clausal.specs.Algebra.{rowBy};
+ghost use Rattle.formula.specs.Tables.{mostNodes, nodeAt, nodeCount, nodesOf};
+ghost use Rattle.clausal.specs.Clauses.{rowBy};
 ghost use Rattle.clausal.specs.Totals.{capped};
 ghost use Rattle.totals.specs.Inner.Columns.{rowIn, childIn, rowNext, Ready, Fillable};
 ghost use Rattle.totals.specs.Inner.Sized.{rowed, asRow};

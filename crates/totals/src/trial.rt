@@ -1,5 +1,5 @@
 // The clause total under a set in which one node is put in or taken out.
-ghost use Rattle.formula.specs.Nodes.{nodesOf};
+ghost use Rattle.formula.specs.Tables.{nodesOf};
 ghost use Rattle.totals.specs.Inner.Sums.{Triable, Tried};
 use crate::rows::fill;
 use crate::total::ClauseTotal;

@@ -10,8 +10,7 @@ use lib.ListN.{length, length-append}
 use borrow.Author.Tests.{not-true, not-false, eqb-true, lt-ltb, le-ltb}
 use Rattle.laws.specs.Lists.{splice}
 use Rattle.laws.proofs.Splices.{splice-splice, splice-all}
-use Rattle.answer.specs.Numbers.{toldOf}
-use Rattle.answer.specs.Part.{bytesOf, Given, Wrote, stored, Left, leaves}
+use Rattle.answer.specs.Answers.{toldOf, bytesOf, Given, Wrote, stored, Left, leaves}
 use Rattle.answer.specs.declared.Answer.{Answer}
 use Rattle.answer.specs.declared.Answer.the-variants.{Room}
 

@@ -3,7 +3,7 @@ use mathlib.Core.Path.{_≡_, refl, sym, ap, _∙_}
 use borrow.Author.Needs.{needs}
 use Rattle.laws.specs.Numbers.{little}
 use Rattle.answer.specs.declared.Told.{Told}
-use Rattle.answer.specs.Part.{bytesOf}
+use Rattle.answer.specs.Answers.{bytesOf}
 use Rattle.answer.proofs.Laws.Part.{four-runs}
 use Rattle.answer.proofs.give.Statement.{statement}
 use Rattle.answer.proofs.give.Tie as tie

@@ -11,13 +11,11 @@ use lib.ListN.{length, getD, set, length-set}
 use lib.Seq.{getD-set-other, set-set, set-getD}
 use borrow.Author.Tests.{lt-ltb, le-ltb, ltb-true}
 use Rattle.formula.specs.Inner.Right.{Below}
-use Rattle.formula.specs.Nodes.{nodeIn}
-use Rattle.formula.specs.Sets.{renamed, mayRename}
+use Rattle.formula.specs.Tables.{nodeIn}
+use Rattle.formula.specs.Checks.{renamed, mayRename}
 use Rattle.formula.specs.declared.node.Node.{Node}
-use Rattle.clausal.specs.Algebra.{Row}
-use Rattle.clausal.specs.Choosing.{Choice, totalUnder, falls, taken, goesIn}
-use Rattle.clausal.specs.Renamings.{Renaming, renaming}
-use Rattle.clausal.specs.Totals.{Size}
+use Rattle.clausal.specs.Clauses.{Row, Renaming, renaming}
+use Rattle.clausal.specs.Totals.{Choice, totalUnder, falls, taken, goesIn, Size}
 use Rattle.clausal.proofs.Renamed.{renamed-set-other}
 use Rattle.totals.specs.Inner.Columns.{cell, Ready}
 use Rattle.totals.specs.Inner.Sums.{Low, Tried}

@@ -9,9 +9,7 @@ use lib.Dec.{eqb, lit<}
 use lib.ListN.{length, getD}
 use Rattle.laws.specs.Numbers.{cap}
 use Rattle.formula.specs.declared.node.Node.{Node}
-use Rattle.clausal.specs.Algebra.{Row, clauses, unitRow}
-use Rattle.clausal.specs.Literals.{Clause}
-use Rattle.clausal.specs.Rows.{rowOf}
+use Rattle.clausal.specs.Clauses.{Row, clauses, unitRow, Clause, rowOf}
 use Rattle.clausal.specs.Totals.{Size, literalsIn, sizeOf, capped, shown, clauseCeiling, literalCeiling}
 use Rattle.clausal.proofs.Ceilings.{capped-row, read-under}
 use Rattle.clausal.proofs.Totals.{size-row}

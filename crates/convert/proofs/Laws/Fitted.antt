@@ -10,13 +10,12 @@ use lib.ListN.{length, length-append}
 use borrow.Author.Tests.{ltb-true, ltb-false, lt-ltb, le-ltb}
 use Rattle.laws.specs.Lists.{splice}
 use Rattle.laws.specs.Numbers.{cap}
-use Rattle.answer.specs.Numbers.{refuses}
-use Rattle.answer.specs.Part.{Wrote, afterwards, stored}
+use Rattle.answer.specs.Answers.{refuses, Wrote, afterwards, stored}
 use Rattle.answer.specs.declared.Answer.{Answer}
 use Rattle.answer.specs.declared.Answer.the-variants.{Accepted, Clauses, Literals, Room}
-use Rattle.clausal.specs.Literals.{Clause, clauseBytes, clausesBytes}
+use Rattle.clausal.specs.Clauses.{Clause, clauseBytes, clausesBytes}
 use Rattle.clausal.specs.Totals.{Size, sizeOf, shown, clauseCeiling, literalCeiling}
-use Rattle.convert.specs.Converted.{ceilings}
+use Rattle.clausal.specs.Calls.{ceilings}
 use Rattle.convert.proofs.Laws.Parts.{length-clause}
 use Rattle.convert.specs.Inner.Fitted.{bytesFor, fitted}
 

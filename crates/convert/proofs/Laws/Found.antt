@@ -11,8 +11,7 @@ use lib.ListN.{length, getD, length-append}
 use borrow.Author.Tests.{ltb-true, ltb-false, ne-eqb}
 use Rattle.laws.specs.Numbers.{cap}
 use Rattle.formula.specs.declared.node.Node.{Node}
-use Rattle.clausal.specs.Algebra.{joinAll}
-use Rattle.clausal.specs.Literals.{Clause}
+use Rattle.clausal.specs.Clauses.{joinAll, Clause}
 use Rattle.clausal.specs.Totals.{clauseCeiling}
 use Rattle.clausal.proofs.Clauses.{clause-left, clause-right, clause-join, quotient-lt, remainder-lt}
 use Rattle.clausal.proofs.Totals.{length-join}

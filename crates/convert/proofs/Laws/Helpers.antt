@@ -10,9 +10,9 @@ use native.Mathlib.Omega.{arith}
 use lib.ListN.{length, set, replicate}
 use Rattle.laws.specs.Lists.{padTo, upTo}
 use Rattle.laws.proofs.Upward.{pad-upTo}
-use Rattle.formula.specs.Limits.{mostNodes}
-use Rattle.formula.specs.Sets.{renamed}
-use Rattle.clausal.specs.Renamings.{Renaming, renaming, renamedBelow, helperOf, nameOf, variablesOf}
+use Rattle.formula.specs.Tables.{mostNodes}
+use Rattle.formula.specs.Checks.{renamed}
+use Rattle.clausal.specs.Clauses.{Renaming, renaming, renamedBelow, helperOf, nameOf, variablesOf}
 use Rattle.convert.specs.Inner.Helpers.{helpersOf, Unnamed}
 
 one-at-most : (b : Bool) → cond b 1 0 ≤ 1

@@ -10,18 +10,14 @@ use lib.ListN.{length, getD}
 use borrow.Author.Tests.{eqb-true}
 use Rattle.laws.specs.Numbers.{cap}
 use Rattle.formula.specs.Inner.Right.{FieldBelow, Right}
-use Rattle.formula.specs.Limits.{mostNodes}
-use Rattle.formula.specs.Nodes.{nodeAt, nodeCount, nodeIn, nodesOf}
-use Rattle.formula.specs.Records.{useOfA, useOfB}
+use Rattle.formula.specs.Tables.{mostNodes, nodeAt, nodeCount, nodeIn, nodesOf, useOfA, useOfB}
 use Rattle.formula.specs.declared.node.Kind.{Kind}
 use Rattle.formula.specs.declared.node.Kind.the-variants.{False, True, Symbol, Not, And, Or, Implies, Equivalent, Unknown}
 use Rattle.formula.specs.declared.node.Node.{Node}
 use Rattle.formula.specs.declared.node.Use.{Use}
 use Rattle.formula.specs.declared.node.Use.the-variants as held
 use Rattle.formula.proofs.Laws.Tables.{length-nodesOf, nodeIn-nodesOf}
-use Rattle.clausal.specs.Algebra.{Row, clauses, rowBy}
-use Rattle.clausal.specs.Literals.{Clause}
-use Rattle.clausal.specs.Rows.{rowOf}
+use Rattle.clausal.specs.Clauses.{Row, clauses, rowBy, Clause, rowOf}
 use Rattle.clausal.specs.Totals.{clauseCeiling}
 use Rattle.clausal.proofs.Rows.{seenOf, row-at}
 use Rattle.convert.specs.Inner.Lists.{signed, pairIn, namesIn, ownList, seenList}

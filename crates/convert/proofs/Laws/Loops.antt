@@ -13,13 +13,13 @@ use borrow.Author.Tests.{eq-eqb, ne-eqb}
 use denote.Ref.{RefT}
 use Rattle.formula.specs.Inner.Held.{Marked, heldAt}
 use Rattle.formula.specs.Marks.{marksOf, markOf, halvesOf}
-use Rattle.formula.specs.Nodes.{nodeCount, nodesOf}
+use Rattle.formula.specs.Tables.{nodeCount, nodesOf}
 use Rattle.formula.specs.declared.mark.Halves.{Halves}
 use Rattle.formula.specs.declared.mark.Mark.{Mark}
 use Rattle.formula.specs.declared.node.Node.{Node}
 use Rattle.formula.proofs.Laws.Held.{heldAt-held}
 use Rattle.formula.proofs.Laws.Tables.{length-nodesOf}
-use Rattle.clausal.specs.Literals.{Clause, clauseBytes, clausesBytes}
+use Rattle.clausal.specs.Clauses.{Clause, clauseBytes, clausesBytes}
 use Rattle.clausal.specs.Totals.{clauseCeiling}
 use Rattle.convert.specs.Inner.Lists.{signed, pairIn, namesIn, ownList}
 use Rattle.convert.specs.Inner.Parts.{around, half, definedBy, definedTo, allParts, ClauseDue, PartDue, DefinitionDue, DefinitionsDue, OutputDue}

@@ -13,21 +13,16 @@ use Rattle.answer.specs.declared.Answer.the-variants.{Accepted}
 use Rattle.laws.specs.Lists.{upTo}
 use Rattle.laws.proofs.Arrays.{getD-pad}
 use Rattle.laws.proofs.Upward.{length-upTo, getD-upTo}
-use Rattle.formula.specs.Limits.{mostNodes}
+use Rattle.formula.specs.Tables.{mostNodes, nodeIn}
 use Rattle.formula.specs.Marks.{markOf, halvesOf}
-use Rattle.formula.specs.Nodes.{nodeIn}
-use Rattle.formula.specs.Sets.{renamed, operator, reached, mayRename, byteRight, setChecked}
+use Rattle.formula.specs.Checks.{renamed, operator, reached, mayRename, byteRight, setChecked}
 use Rattle.formula.specs.declared.mark.Halves.{Halves}
 use Rattle.formula.specs.declared.node.Node.{Node}
 use Rattle.formula.proofs.Laws.Sets.{RightSet, right-set}
-use Rattle.clausal.specs.Algebra.{clauses, joinAll}
-use Rattle.clausal.specs.Literals.{Literal, Clause}
+use Rattle.clausal.specs.Clauses.{clauses, joinAll, Literal, Clause, Renaming, helperOf, nameOf, rowOf}
 use Rattle.clausal.specs.Output.{Part, rootPart, downPart, upPart, definition, definitions, partsOf, outputOf}
-use Rattle.clausal.specs.Places.{contentsOf}
-use Rattle.clausal.specs.Renamings.{Renaming, helperOf, nameOf}
-use Rattle.clausal.specs.Rows.{rowOf}
+use Rattle.clausal.proofs.Places.{contentsOf, output-contents}
 use Rattle.clausal.proofs.Helpers.{helper-some, name-renamed, name-plain, renamed-inside}
-use Rattle.clausal.proofs.Places.{output-contents}
 use Rattle.convert.specs.Inner.Helpers.{helpersOf}
 use Rattle.convert.specs.Inner.Lists.{namesIn, ownList}
 use Rattle.convert.specs.Inner.Parts.{around, partOf, half, definedBy, definedTo, allParts}

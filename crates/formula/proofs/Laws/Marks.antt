@@ -10,7 +10,7 @@ use lib.Dec.{T, eqb}
 use lib.ListN.{length, set, length-set}
 use lib.Seq.{getD-set-same, getD-set-other, set-getD}
 use borrow.Author.Tests.{eqb-true, eqb-false}
-use Rattle.formula.specs.Records.{useOfA, useOfB}
+use Rattle.formula.specs.Tables.{useOfA, useOfB}
 use Rattle.formula.specs.Inner.Right.{FieldBelow, Below}
 use Rattle.formula.specs.Marks.{unmarked, joined, turned, doubled, toA, toB, markIn, mark, passOn}
 use Rattle.formula.specs.Paths.{has}

@@ -11,7 +11,7 @@ use lib.ListN.{length, set, replicate, length-set, length-replicate, List·getD-
 use lib.Seq.{getD-set-same, getD-set-other, set-out}
 use borrow.Author.Tests.{eqb-true, eqb-false, ltb-true, ltb-false}
 use Rattle.answer.specs.declared.Answer.the-variants.{Accepted}
-use Rattle.formula.specs.Nodes.{nodesOf, nodeIn}
+use Rattle.formula.specs.Tables.{nodesOf, nodeIn}
 use Rattle.formula.specs.Checks.{checked}
 use Rattle.formula.specs.Marks.{unmarked, positive, joined, turned, doubled, toA, toB, markIn, mark, passOn, downFrom, rootMarked, marksOf, markOf}
 use Rattle.formula.specs.Paths.{Reached, root, not-a, and-a, and-b, or-a, or-b, implies-a, implies-b, equivalent-a, equivalent-b, has}

@@ -9,9 +9,9 @@ use lib.Dec.{eqb, ltb}
 use lib.ListN.{length}
 use borrow.Author.Tests.{eqb-true, ltb-false}
 use Rattle.laws.proofs.First.{first-before}
-use Rattle.answer.specs.Numbers.{refuses}
+use Rattle.answer.specs.Answers.{refuses}
 use Rattle.answer.proofs.Laws.Order.{passes}
-use Rattle.formula.specs.Sets.{byteRight, firstWrongByte, setChecked}
+use Rattle.formula.specs.Checks.{byteRight, firstWrongByte, setChecked}
 use Rattle.answer.specs.declared.Answer.the-variants.{Accepted, Set}
 use Rattle.formula.specs.declared.node.Node.{Node}
 

@@ -11,11 +11,10 @@ use borrow.Author.Tests.{eqb-true, eqb-false, ltb-true, ltb-false, leb-true, not
 use Rattle.answer.specs.declared.Answer.the-variants.{Accepted, TableLength, Options, Record}
 use Rattle.laws.proofs.Choices.{neither}
 use Rattle.laws.proofs.First.{first-before, first-fails}
-use Rattle.answer.specs.Numbers.{refuses}
+use Rattle.answer.specs.Answers.{refuses}
 use Rattle.answer.proofs.Laws.Order.{passes}
-use Rattle.formula.specs.Limits.{nodeBytes, mostNodes, mostOptions}
-use Rattle.formula.specs.Nodes.{nodeAt, nodeCount, nodesOf, nodeIn}
-use Rattle.formula.specs.Records.{known, useOfA, useOfB, fieldRight, faultOf}
+use Rattle.formula.specs.Tables.{nodeBytes, mostNodes, mostOptions, nodeAt, nodeCount, nodesOf, nodeIn, known, useOfA, useOfB}
+use Rattle.formula.specs.Tables.{fieldRight, faultOf}
 use Rattle.formula.specs.Inner.Right.{FieldBelow, Below, WellFormed, RightLength}
 use Rattle.formula.specs.Checks.{lengthWrong, recordRight, firstWrong, checked}
 use Rattle.formula.proofs.Laws.Tables.{length-nodesOf, nodeIn-nodesOf}

@@ -2,9 +2,9 @@
 use mathlib.Core.List.{List}
 use Prim.Native.Nat.{ℕ}
 use borrow.Author.Needs.{needs}
-use Rattle.answer.specs.Part.{Wrote}
+use Rattle.answer.specs.Answers.{Wrote}
 use Rattle.answer.proofs.Laws.Part.{leaves-wrong, leaves-right, part-right}
-use Rattle.convert.specs.Converted.{converted}
+use Rattle.clausal.specs.Calls.{converted}
 use Rattle.host.proofs.simbolufa_convert.Statement.{statement}
 use Rattle.host.proofs.simbolufa_convert.Tie as tie
 

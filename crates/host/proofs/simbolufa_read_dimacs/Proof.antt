@@ -2,7 +2,7 @@
 use mathlib.Core.List.{List}
 use Prim.Native.Nat.{ℕ}
 use borrow.Author.Needs.{needs}
-use Rattle.answer.specs.Part.{Wrote}
+use Rattle.answer.specs.Answers.{Wrote}
 use Rattle.answer.proofs.Laws.Part.{leaves-wrong, leaves-right, part-right}
 use Rattle.dimacs.specs.Calls.{readCall}
 use Rattle.host.proofs.simbolufa_read_dimacs.Statement.{statement}

@@ -9,13 +9,12 @@ use lib.Dec.{T, leb}
 use lib.ListN.{length, drop, length-append}
 use borrow.Author.Tests.{leb-true}
 use Rattle.laws.specs.Splices.{splice}
-use Rattle.answer.specs.Numbers.{refuses}
-use Rattle.answer.specs.Part.{Wrote}
+use Rattle.answer.specs.Answers.{refuses, Wrote}
 use Rattle.answer.specs.declared.Answer.{Answer}
 use Rattle.answer.specs.declared.Answer.the-variants.{Accepted, Room, ClauseBytes}
 use Rattle.dimacs.specs.Calls.{textLength, writeCall}
 use Rattle.dimacs.specs.Words.{wrongBytes, clausesOf}
-use Rattle.dimacs.specs.Written.{writtenText}
+use Rattle.dimacs.specs.Texts.{writtenText}
 use Rattle.program.specs.Printed.{bufferBytes, refusalLine, clausesPrinted}
 
 module _ (bytes : List ℕ) (v : ℕ) (before : List ℕ) (size : length before ≡ bufferBytes) where

@@ -9,21 +9,18 @@ use lib.Dec.{lit<}
 use lib.ListN.{length, take}
 use Rattle.laws.specs.Caps.{cap}
 use Rattle.laws.proofs.Splices.{length-splice}
-use Rattle.answer.specs.Numbers.{toldOf, refuses, after}
-use Rattle.answer.specs.Part.{Wrote}
+use Rattle.answer.specs.Answers.{toldOf, refuses, after, Wrote}
 use Rattle.answer.specs.declared.Answer.{Answer}
 use Rattle.answer.specs.declared.Answer.the-variants.{Accepted}
-use Rattle.formula.specs.Checks.{checked}
-use Rattle.formula.specs.Nodes.{nodesOf}
-use Rattle.formula.specs.Sets.{setChecked}
+use Rattle.formula.specs.Checks.{checked, setChecked}
+use Rattle.formula.specs.Tables.{nodesOf}
 use Rattle.clausal.specs.Helpers.{variablesOf}
-use Rattle.clausal.specs.Literals.{clausesBytes}
+use Rattle.clausal.specs.Clauses.{clausesBytes}
 use Rattle.clausal.specs.Output.{outputOf}
 use Rattle.clausal.specs.Totals.{Size, sizeOf, shown, totals, clauseCeiling, literalCeiling}
 use Rattle.clausal.proofs.Ceilings.{read-under}
 use Rattle.clausal.proofs.Totals.{totals-output}
-use Rattle.totals.specs.Measured.{measured}
-use Rattle.convert.specs.Converted.{written, converted}
+use Rattle.clausal.specs.Calls.{measured, written, converted}
 use Rattle.convert.proofs.Laws.Accepted.{checks, sets, room, converts}
 use Rattle.convert.proofs.Laws.Fitted.{Fits, fits, length-bytes}
 use Rattle.nodefile.proofs.Laws.Stored.{taken-again}

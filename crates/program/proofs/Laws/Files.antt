@@ -10,14 +10,12 @@ use lib.ListN.{length, take}
 use borrow.Author.Tests.{le-leb}
 use Rattle.laws.specs.Splices.{splice}
 use Rattle.laws.proofs.Splices.{length-splice}
-use Rattle.answer.specs.Numbers.{toldOf, refuses}
-use Rattle.answer.specs.Part.{Wrote, afterwards}
+use Rattle.answer.specs.Answers.{toldOf, refuses, Wrote, afterwards}
 use Rattle.answer.specs.declared.Answer.{Answer}
 use Rattle.answer.specs.declared.Answer.the-variants.{Accepted, Room, Line}
-use Rattle.formula.specs.Limits.{nodeBytes, mostNodes}
-use Rattle.nodefile.specs.Files.{lineOf, firstWrong, fileRight, fileNodes, fileTable, fileChecked, fileStored, fileRead}
+use Rattle.formula.specs.Tables.{nodeBytes, mostNodes}
+use Rattle.nodefile.specs.Files.{lineOf, firstWrong, fileRight, fileNodes, fileTable, fileChecked, fileStored, fileRead, optionCount}
 use Rattle.nodefile.specs.Limits.{mostBytes}
-use Rattle.nodefile.specs.Lines.{optionCount}
 use Rattle.nodefile.proofs.Laws.Files.{length-records}
 use Rattle.nodefile.proofs.Laws.Fits.{few-nodes, table-fits}
 use Rattle.nodefile.proofs.Laws.Stored.{taken-again}

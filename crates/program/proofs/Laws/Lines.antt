@@ -8,7 +8,7 @@ use lib.Dec.{lit<}
 use lib.ListN.{length, length-append}
 use Rattle.laws.specs.Decimals.{decimal}
 use Rattle.laws.proofs.Decimals.{length-decimal-le}
-use Rattle.dimacs.specs.Written.{Wrote}
+use Rattle.dimacs.specs.Texts.{Wrote}
 use Rattle.dimacs.proofs.Laws.Writing.{wrote-length}
 use Rattle.program.specs.Printed.{field, Shows}
 

@@ -8,16 +8,14 @@ use native.Mathlib.Omega.{arith}
 use lib.Dec.{T, eqb}
 use lib.ListN.{length}
 use borrow.Author.Tests.{eq-eqb}
-use Rattle.answer.specs.Numbers.{refuses}
-use Rattle.answer.specs.Part.{Wrote, afterwards}
+use Rattle.answer.specs.Answers.{refuses, Wrote, afterwards}
 use Rattle.answer.specs.declared.Answer.{Answer}
 use Rattle.answer.specs.declared.Answer.the-variants.{Set}
 use Rattle.formula.specs.Checks.{checked}
-use Rattle.formula.specs.Limits.{nodeBytes}
-use Rattle.formula.specs.Nodes.{nodesOf}
+use Rattle.formula.specs.Tables.{nodeBytes, nodesOf}
 use Rattle.formula.proofs.Laws.Tables.{length-nodesOf}
-use Rattle.clausal.specs.Choosing.{choose}
-use Rattle.choose.specs.Chosen.{told, chosenUnder, chosenBy}
+use Rattle.clausal.specs.Totals.{choose}
+use Rattle.clausal.specs.Calls.{told, chosenUnder, chosenBy}
 use Rattle.program.specs.Printed.{allowance, refusalLine, setPrinted, tablePrinted}
 
 module _ (t : List ℕ) (v : ℕ) (before : List ℕ) (size : length before ≡ length t / nodeBytes) where

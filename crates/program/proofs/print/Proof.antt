@@ -7,7 +7,7 @@ use native.Mathlib.Omega.{arith}
 use borrow.Author.Needs.{needs}
 use lib.ListN.{length, take}
 use lib.Seq.{length-take-le}
-use Rattle.answer.specs.Numbers.{toldOf, refuses}
+use Rattle.answer.specs.Answers.{toldOf, refuses}
 use Rattle.answer.specs.declared.Told.{Told}
 use Rattle.nodefile.specs.Files.{fileTable}
 use Rattle.program.specs.Printed.{tablePrinted}

@@ -6,12 +6,12 @@ use Prim.Native.Nat.{ℕ, _≤_}
 use native.Mathlib.Omega.{arith}
 use borrow.Author.Needs.{needs}
 use lib.ListN.{length, take}
-use Rattle.answer.specs.Numbers.{toldOf, refuses}
+use Rattle.answer.specs.Answers.{toldOf, refuses}
 use Rattle.answer.specs.declared.Told.{Told}
-use Rattle.formula.specs.Nodes.{nodesOf}
-use Rattle.clausal.specs.Literals.{clausesBytes}
+use Rattle.formula.specs.Tables.{nodesOf}
+use Rattle.clausal.specs.Clauses.{clausesBytes}
 use Rattle.clausal.specs.Output.{outputOf}
-use Rattle.convert.specs.Converted.{converted}
+use Rattle.clausal.specs.Calls.{converted}
 use Rattle.program.specs.Printed.{blank, refusalLine, clausesPrinted, setPrinted}
 use Rattle.program.proofs.Laws.Conversions.{convert-refused, convert-accepted, sized, taken, within, variables}
 use Rattle.program.proofs.Laws.Lines.{shows-same}

@@ -6,8 +6,8 @@ use Prim.Native.Nat.{ℕ, _/_, _≤_}
 use native.Mathlib.Omega.{arith}
 use borrow.Author.Needs.{needs}
 use lib.ListN.{length, take, length-take}
-use Rattle.answer.specs.Numbers.{refuses}
-use Rattle.formula.specs.Limits.{nodeBytes}
+use Rattle.answer.specs.Answers.{refuses}
+use Rattle.formula.specs.Tables.{nodeBytes}
 use Rattle.program.proofs.Laws.Lines.{shows-same}
 use Rattle.program.proofs.Laws.Tables.{choose-refused, choose-accepted}
 use Rattle.program.proofs.print_table.Statement.{statement}

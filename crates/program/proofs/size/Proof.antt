@@ -2,7 +2,7 @@
 use mathlib.Core.Path.{_≡_, ap, _∙_}
 use Prim.Native.Nat.{ℕ, _+_, _*_}
 use borrow.Author.Needs.{needs}
-use Rattle.answer.specs.Numbers.{toldOf}
+use Rattle.answer.specs.Answers.{toldOf}
 use Rattle.answer.specs.declared.Answer.{Answer}
 use Rattle.answer.specs.declared.Told.{Told}
 use Rattle.program.proofs.size.Statement.{statement}

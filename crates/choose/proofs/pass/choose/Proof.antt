@@ -4,10 +4,10 @@ use mathlib.Core.Bool.{false}
 use mathlib.Core.List.{List}
 use Prim.Native.Nat.{ℕ}
 use borrow.Author.Needs.{needs}
-use Rattle.answer.specs.Part.{Wrote}
+use Rattle.answer.specs.Answers.{Wrote}
 use Rattle.answer.proofs.Laws.Order.{tested, refused-wrote, accepted-wrote}
 use Rattle.formula.specs.Checks.{checked}
-use Rattle.formula.specs.Nodes.{nodesOf}
+use Rattle.formula.specs.Tables.{nodesOf}
 use Rattle.formula.proofs.Laws.WellFormed.{length-right, checked-accepted, accepted-well-formed}
 use Rattle.choose.proofs.Laws.Told.{chosen-options}
 use Rattle.choose.proofs.pass.choose.Statement.{statement}

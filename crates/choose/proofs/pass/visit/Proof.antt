@@ -5,7 +5,7 @@ use native.Mathlib.Omega.{arith}
 use lib.ListN.{length}
 use borrow.Author.Needs.{needs}
 use borrow.Author.Tests.{not-true, not-false}
-use Rattle.formula.specs.Nodes.{nodesOf}
+use Rattle.formula.specs.Tables.{nodesOf}
 use Rattle.formula.proofs.Laws.Tables.{length-nodesOf}
 use Rattle.choose.proofs.Laws.Visits.{full, not-allowed, too-small, attempted}
 use Rattle.choose.proofs.pass.visit.Statement.{statement}

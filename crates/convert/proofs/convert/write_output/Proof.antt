@@ -6,7 +6,7 @@ use native.Mathlib.Omega.{arith}
 use denote.Ref.{RefT}
 use borrow.Author.Needs.{needs}
 use Rattle.laws.specs.Lists.{splice}
-use Rattle.clausal.specs.Literals.{Clause, clausesBytes}
+use Rattle.clausal.specs.Clauses.{Clause, clausesBytes}
 use Rattle.convert.proofs.Laws.Written.{unnamed, parts-are, output-due}
 use Rattle.convert.proofs.convert.write_output.Statement.{statement}
 use Rattle.convert.proofs.convert.write_output.Tie as tie

@@ -4,7 +4,7 @@ use mathlib.Core.Path.{_≡_, ap}
 use native.Mathlib.Omega.{arith}
 use borrow.Author.Needs.{needs}
 use borrow.Author.Tests.{not-true, not-false}
-use Rattle.clausal.specs.Literals.{literalBytes}
+use Rattle.clausal.specs.Clauses.{literalBytes}
 use Rattle.convert.specs.Inner.Lists.{shownAll}
 use Rattle.convert.proofs.Laws.Parts.{not-here, no-helper, helper-here}
 use Rattle.convert.proofs.Laws.Put.{put-nothing, put-as}

@@ -3,7 +3,7 @@ use mathlib.Core.List.{[]}
 use native.Mathlib.Omega.{arith}
 use lib.ListN.{getD}
 use borrow.Author.Needs.{needs}
-use Rattle.formula.specs.Nodes.{nodesOf}
+use Rattle.formula.specs.Tables.{nodesOf}
 use Rattle.convert.specs.Inner.Lists.{namesIn, ownList}
 use Rattle.convert.proofs.Laws.Parts.{fits-front, fits-own, fits-behind, room-zero, end-zero, put-closed}
 use Rattle.convert.proofs.part.write_clause.Statement.{statement}

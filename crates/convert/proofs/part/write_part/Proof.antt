@@ -6,8 +6,8 @@ use Prim.Native.Nat.{ℕ, _-_}
 use native.Mathlib.Omega.{arith}
 use borrow.Author.Needs.{needs}
 use borrow.Author.Tests.{not-true, not-false}
-use Rattle.formula.specs.Nodes.{nodesOf}
-use Rattle.clausal.specs.Literals.{clausesBytes}
+use Rattle.formula.specs.Tables.{nodesOf}
+use Rattle.clausal.specs.Clauses.{clausesBytes}
 use Rattle.convert.specs.Inner.Lists.{namesIn}
 use Rattle.convert.specs.Inner.Parts.{half, PartDue}
 use Rattle.convert.proofs.Laws.Loops.{Writing, writing-start, writing-next, writing-step, writing-end}

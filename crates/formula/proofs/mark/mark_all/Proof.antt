@@ -3,8 +3,7 @@
 use mathlib.Core.Path.{subst}
 use Prim.Native.Nat.{ℕ, _≤_}
 use native.Mathlib.Omega.{arith}
-use Rattle.formula.specs.Limits.{mostNodes}
-use Rattle.formula.specs.Nodes.{nodeCount}
+use Rattle.formula.specs.Tables.{mostNodes, nodeCount}
 use Rattle.formula.proofs.Laws.Passing.{Passing, passing-start, passing-step, passing-end}
 use Rattle.formula.proofs.mark.mark_all.Statement.{statement}
 use Rattle.formula.proofs.mark.mark_all.Tie as tie

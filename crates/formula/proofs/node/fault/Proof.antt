@@ -3,7 +3,7 @@ use mathlib.Core.Path.{_≡_, sym, ap, _∙_}
 use mathlib.Core.Bool.{Bool, true, false}
 use borrow.Author.Needs.{needs}
 use borrow.Author.Tests.{not-true, not-false}
-use Rattle.formula.specs.Records.{known, useOfA, useOfB, fieldRight}
+use Rattle.formula.specs.Tables.{known, useOfA, useOfB, fieldRight}
 use Rattle.formula.specs.declared.node.Use.{Use}
 use Rattle.formula.proofs.node.fault.Statement.{statement}
 use Rattle.formula.proofs.node.fault.Tie as tie

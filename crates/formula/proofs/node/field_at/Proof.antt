@@ -3,7 +3,7 @@
 use native.Mathlib.Omega.{arith}
 use borrow.Author.Needs.{needs}
 use Rattle.laws.proofs.Bytes.{Reading, reading-start, reading-fits, reading-more, reading-end}
-use Rattle.formula.specs.Limits.{fieldBytes}
+use Rattle.formula.specs.Tables.{fieldBytes}
 use Rattle.formula.proofs.node.field_at.Statement.{statement}
 use Rattle.formula.proofs.node.field_at.Tie as tie
 

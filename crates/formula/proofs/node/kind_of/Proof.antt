@@ -4,7 +4,7 @@ use Prim.Native.Nat.{ℕ, suc, _≤_, zero-le}
 use native.Mathlib.Omega.{arith}
 use borrow.Author.Needs.{needs}
 use lib.ListN.{List·getD-eq-default}
-use Rattle.formula.specs.Nodes.{kinds}
+use Rattle.formula.specs.Tables.{kinds}
 use Rattle.formula.proofs.node.kind_of.Statement.{statement}
 use Rattle.formula.specs.declared.node.Kind.the-variants.{Unknown}
 use Rattle.formula.proofs.node.kind_of.Tie as tie

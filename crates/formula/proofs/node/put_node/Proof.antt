@@ -8,8 +8,7 @@ use borrow.Author.Needs.{needs}
 use Rattle.laws.specs.Lists.{splice, Stored}
 use Rattle.laws.specs.Numbers.{little}
 use Rattle.laws.proofs.Stored.{stored-byte, stored-both, stored-length}
-use Rattle.formula.specs.Limits.{fieldBytes, nodeBytes}
-use Rattle.formula.specs.Nodes.{nodeRecord}
+use Rattle.formula.specs.Tables.{fieldBytes, nodeBytes, nodeRecord}
 use Rattle.formula.proofs.node.put_node.Statement.{statement}
 use Rattle.formula.proofs.node.put_node.Tie as tie
 

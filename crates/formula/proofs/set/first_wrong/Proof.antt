@@ -8,8 +8,8 @@ use borrow.Author.Tests.{not-true, not-false}
 use lib.ListN.{length}
 use Rattle.laws.specs.Lists.{first}
 use Rattle.laws.proofs.First.{Looking, looking-start, looking-more, looking-here, looking-end}
-use Rattle.formula.specs.Nodes.{nodeCount, nodesOf}
-use Rattle.formula.specs.Sets.{byteRight}
+use Rattle.formula.specs.Tables.{nodeCount, nodesOf}
+use Rattle.formula.specs.Checks.{byteRight}
 use Rattle.formula.proofs.Laws.Tables.{length-nodesOf}
 use Rattle.formula.proofs.set.first_wrong.Statement.{statement}
 use Rattle.formula.proofs.set.first_wrong.Tie as tie

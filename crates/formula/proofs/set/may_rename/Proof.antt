@@ -7,10 +7,10 @@ use Prim.Native.Nat.{ℕ, suc, _+_}
 use native.Mathlib.Numerals.{add-one}
 use borrow.Author.Needs.{needs}
 use borrow.Author.Tests.{not-true, not-false}
-use Rattle.formula.specs.Nodes.{nodesOf, nodeIn}
+use Rattle.formula.specs.Tables.{nodesOf, nodeIn}
 use Rattle.formula.specs.Marks.{markOf, marksOf}
 use Rattle.formula.specs.Inner.Held.{heldAt}
-use Rattle.formula.specs.Sets.{operator, reached}
+use Rattle.formula.specs.Checks.{operator, reached}
 use Rattle.formula.proofs.Laws.Tables.{length-nodesOf, nodeIn-nodesOf}
 use Rattle.formula.proofs.Laws.Held.{heldAt-held}
 use Rattle.formula.proofs.set.may_rename.Statement.{statement}

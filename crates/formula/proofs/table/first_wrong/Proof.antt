@@ -7,8 +7,7 @@ use lib.Dec.{eqb}
 use borrow.Author.Tests.{eq-eqb, ne-eqb}
 use Rattle.laws.proofs.First.{Looking, looking-start, looking-more, looking-here, looking-end}
 use Rattle.formula.specs.Checks.{recordRight}
-use Rattle.formula.specs.Nodes.{nodeCount, nodeAt}
-use Rattle.formula.specs.Records.{faultOf}
+use Rattle.formula.specs.Tables.{nodeCount, nodeAt, faultOf}
 use Rattle.formula.proofs.table.first_wrong.Statement.{statement}
 use Rattle.formula.specs.declared.node.Node.{Node}
 use Rattle.formula.proofs.table.first_wrong.Tie as tie

@@ -6,10 +6,9 @@ use native.Mathlib.Omega.{arith}
 use borrow.Author.Needs.{needs}
 use lib.ListN.{length, length-append}
 use Rattle.laws.specs.Caps.{cap}
-use Rattle.answer.specs.Numbers.{toldOf}
-use Rattle.answer.specs.Part.{mostShown}
+use Rattle.answer.specs.Answers.{toldOf, mostShown}
 use Rattle.answer.specs.declared.Told.{Told}
-use Rattle.dimacs.specs.Written.{Wrote}
+use Rattle.dimacs.specs.Texts.{Wrote}
 use Rattle.dimacs.proofs.Laws.Writing.{room-left, room-right, wrote-both}
 use Rattle.program.specs.Printed.{refusedName, field, refusalLine}
 use Rattle.program.proofs.Laws.Lines.{shows-same, shows-wrote, wrote-as, field-short}

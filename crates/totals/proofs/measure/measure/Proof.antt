@@ -2,13 +2,13 @@
 use mathlib.Core.Path.{sym, ap, _∙_}
 use mathlib.Core.Bool.{false}
 use borrow.Author.Needs.{needs}
-use Rattle.answer.specs.Numbers.{after}
+use Rattle.answer.specs.Answers.{after}
 use Rattle.answer.specs.declared.Answer.the-variants.{Accepted}
 use Rattle.answer.proofs.Laws.Order.{tested, refused-first, accepted-first}
-use Rattle.formula.specs.Nodes.{nodesOf}
-use Rattle.formula.specs.Sets.{setChecked}
+use Rattle.formula.specs.Tables.{nodesOf}
+use Rattle.formula.specs.Checks.{setChecked}
 use Rattle.formula.proofs.Laws.WellFormed.{length-right}
-use Rattle.clausal.specs.Renamings.{renaming}
+use Rattle.clausal.specs.Clauses.{renaming}
 use Rattle.clausal.specs.Totals.{Size}
 use Rattle.clausal.proofs.Options.{totals-options}
 use Rattle.totals.proofs.measure.measure.Statement.{statement}

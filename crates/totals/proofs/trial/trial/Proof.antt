@@ -5,7 +5,7 @@ use Prim.Native.Nat.{ℕ, _+_}
 use native.Mathlib.Omega.{arith}
 use lib.ListN.{set}
 use borrow.Author.Needs.{needs}
-use Rattle.formula.specs.Nodes.{nodesOf}
+use Rattle.formula.specs.Tables.{nodesOf}
 use Rattle.formula.proofs.Laws.Tables.{length-nodesOf}
 use Rattle.totals.specs.Inner.Columns.{Ready}
 use Rattle.totals.specs.declared.total.Total.{Total}

@@ -1,15 +1,35 @@
+-- R9.1 to R9.3: the text of a list of clauses.
 -- R9.5 to R9.17: the texts that are accepted, by productions, and the clauses that they stand for.
 -- Assumes nothing: these are definitions.
-use mathlib.Core.Bool.{Bool, true, false}
+use mathlib.Core.Bool.{cond, Bool, true, false}
 use mathlib.Core.List.{List, [], _∷_, _++_}
-use mathlib.Core.Path.{_≡_}
 use Prim.Native.Nat.{ℕ}
 use lib.ListN.{length}
-use Rattle.text.specs.Heads.{Blank, Headed}
+use Rattle.text.specs.Texts.{decimal, Blank, Headed}
+use Rattle.clausal.specs.Clauses.{Literal, Clause}
+use mathlib.Core.Path.{_≡_}
 use Rattle.text.specs.declared.head.Form.{Form}
-use Rattle.clausal.specs.Literals.{Literal, Clause}
-use Rattle.clausebytes.specs.Right.{mostVariables, mostClauses, Right}
-use Rattle.dimacs.specs.Written.{literalText}
+use Rattle.clausebytes.specs.Words.{mostVariables, mostClauses, Right}
+
+-- R9.1: `p cnf `, the variables, a space, the clauses, a newline
+abbrev pub headerLine : ℕ → ℕ → List ℕ
+headerLine v k = (112 ∷ 32 ∷ 99 ∷ 110 ∷ 102 ∷ 32 ∷ []) ++ ((decimal v ++ (32 ∷ [])) ++ (decimal k ++ (10 ∷ [])))
+
+-- R9.2: the line of a clause
+abbrev pub literalText : Literal → List ℕ
+literalText l = cond (l .plain) (decimal (l .variable)) (45 ∷ decimal (l .variable))
+
+abbrev pub clauseLine : Clause → List ℕ
+clauseLine [] = 48 ∷ 10 ∷ []
+clauseLine (l ∷ c) = literalText l ++ (32 ∷ clauseLine c)
+
+abbrev pub linesOf : List Clause → List ℕ
+linesOf [] = []
+linesOf (c ∷ cs) = clauseLine c ++ linesOf cs
+
+-- R9.3: the whole text
+abbrev pub writtenText : ℕ → List Clause → List ℕ
+writtenText v cs = headerLine v (length cs) ++ linesOf cs
 
 -- R9.7 and R9.8: the header has `cnf`, variables and clauses
 abbrev pub cnf : Form

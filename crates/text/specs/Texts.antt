@@ -1,12 +1,41 @@
+-- R9.13 and R13.4: numbers in decimal, with no needless zero, as bytes of text.
 -- R9.5 to R9.8, R9.11 and R9.13: comments and a header, by productions.
 -- Each family says what may stand in a place of a text, and takes what may follow.
+-- R13.1: the pieces of a text between its marks.
 -- Assumes nothing: these are definitions.
-use mathlib.Core.Bool.{Bool, true, false, not}
-use mathlib.Core.List.{List, _∷_, _++_}
+use mathlib.Core.Bool.{Bool, true, false, cond, _&&_, not}
+use mathlib.Core.List.{List, [], _∷_, _++_}
+use Prim.Native.Nat.{ℕ, zero, suc, _+_, _*_, _-_, _/_, _%_, _≤_}
+use lib.Dec.{eqb, leb, ltb}
 use mathlib.Core.Path.{_≡_}
-use Prim.Native.Nat.{ℕ, _≤_}
-use Rattle.text.specs.Decimals.{decimal}
 use Rattle.text.specs.declared.head.Form.{Form}
+
+-- R9.13 and R13.4: the digits of n, where k is at least their number less one
+unfoldable pub digits : ℕ → ℕ → List ℕ
+digits zero n = (48 + n) ∷ []
+digits (suc k) n = let longer = digits k (n / 10) ++ ((48 + n % 10) ∷ []) in cond (ltb n 10) ((48 + n) ∷ []) longer
+
+abbrev pub decimal : ℕ → List ℕ
+decimal n = digits n n
+
+-- R13.4: the value of bytes as digits, behind those of x
+unfoldable pub valueFrom : ℕ → List ℕ → ℕ
+valueFrom x [] = x
+valueFrom x (b ∷ t) = valueFrom (x * 10 + (b - 48)) t
+
+abbrev pub valueOf : List ℕ → ℕ
+valueOf bytes = valueFrom 0 bytes
+
+-- R13.2 and R13.4: whether two runs of bytes are the same
+unfoldable pub same : List ℕ → List ℕ → Bool
+same [] [] = true
+same [] (y ∷ ys) = false
+same (x ∷ xs) [] = false
+same (x ∷ xs) (y ∷ ys) = eqb x y && same xs ys
+
+-- R13.4: whether bytes are a number up to `most`: the decimal of their value
+abbrev pub isNumber : ℕ → List ℕ → Bool
+isNumber most bytes = same bytes (decimal (valueOf bytes)) && leb (valueOf bytes) most
 
 -- R9.6: a comment behind its `c`: any bytes but a newline, a newline, and then r
 pub data Remark (r : List ℕ) : List ℕ → Type 0 where
@@ -54,3 +83,14 @@ pub data Opening (f : Form) (Next : List ℕ → Type 0) : List ℕ → Type 0 w
 -- R9.5: a text with such a head, and behind it what may follow its two numbers; of one number alone the first of the two is 0
 abbrev pub Headed : Form → (ℕ → ℕ → List ℕ → Type 0) → List ℕ → Type 0
 Headed f Next = Opening f (Numbers f Next (not (f .pair)) 0)
+
+-- R13.1: a byte in front of pieces: a mark ends a piece before them, any other byte stands in the first of them
+abbrev pub ahead : Bool → ℕ → List (List ℕ) → List (List ℕ)
+ahead true b ps = [] ∷ ps
+ahead false b [] = (b ∷ []) ∷ []
+ahead false b (p ∷ ps) = (b ∷ p) ∷ ps
+
+-- R13.1: the pieces of a text, without the marks between them: one piece more than there are marks
+unfoldable pub parted : ℕ → List ℕ → List (List ℕ)
+parted mark [] = [] ∷ []
+parted mark (b ∷ t) = ahead (eqb b mark) b (parted mark t)
