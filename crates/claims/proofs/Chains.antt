@@ -13,7 +13,8 @@ use Rattle.laws.proofs.Every.{and-both, and-left, and-right}
 use Rattle.formula.specs.Checks.{renamed}
 use Rattle.formula.specs.Truths.{formulaTrue}
 use Rattle.clausal.specs.Clauses.{helperOf, variablesOf}
-use Rattle.clausal.specs.Meanings.{satisfies, Extends, extended}
+use Rattle.clausal.specs.Meanings.{satisfies, Extends}
+use Rattle.clausal.specs.Inner.Extended.{extended}
 use Rattle.clausal.proofs.Extended.{extended-option, extended-helper}
 use Rattle.clausal.proofs.Helpers.{helper-above}
 use Rattle.clausal.proofs.Truths.{satisfies-append}

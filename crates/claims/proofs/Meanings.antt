@@ -16,7 +16,8 @@ use Rattle.formula.specs.declared.node.Node.{Node}
 use Rattle.formula.proofs.Laws.Tables.{length-nodesOf}
 use Rattle.formula.proofs.Laws.WellFormed.{length-right}
 use Rattle.clausal.specs.Clauses.{Clause, Renaming, variablesOf}
-use Rattle.clausal.specs.Meanings.{Origin, Named, satisfies, extended}
+use Rattle.clausal.specs.Meanings.{Origin, Named, satisfies}
+use Rattle.clausal.specs.Inner.Extended.{extended}
 use Rattle.clausal.specs.Output.{outputOf}
 use Rattle.clausal.specs.Totals.{Size, sizeOf, clauseCeiling, literalCeiling}
 use Rattle.clausal.proofs.Extended.{extends}

@@ -15,7 +15,7 @@ use Rattle.formula.specs.Marks.{markOf, halvesOf}
 use Rattle.formula.specs.Checks.{renamed}
 use Rattle.clausal.specs.Clauses.{helperOf, Renaming, nameOf, rowOf}
 use Rattle.clausal.specs.Output.{Part, downPart, upPart, definition, definitions, partsOf, gather, wholeOf}
-use Rattle.clausal.specs.Meanings.{truths}
+use Rattle.clausal.specs.Inner.Extended.{truths}
 use Rattle.formula.specs.declared.mark.Halves.{Halves}
 use Rattle.formula.specs.declared.node.Node.{Node}
 

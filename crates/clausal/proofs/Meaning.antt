@@ -20,7 +20,8 @@ use Rattle.formula.proofs.Laws.Polarity.{passed-a, passed-b, root-positive}
 use Rattle.formula.proofs.Laws.WellFormed.{accepted-well-formed}
 use Rattle.clausal.specs.Clauses.{Row, helperOf, Renaming, nameOf, rowOf}
 use Rattle.clausal.specs.Output.{outputOf}
-use Rattle.clausal.specs.Meanings.{satisfies, truths, extended, Extends}
+use Rattle.clausal.specs.Meanings.{satisfies, Extends}
+use Rattle.clausal.specs.Inner.Extended.{truths, extended}
 use Rattle.clausal.proofs.Extended.{extends}
 use Rattle.clausal.proofs.Halves.{Defines, AllTrue, whole-true}
 use Rattle.clausal.proofs.Known.{accepted-known}

@@ -18,7 +18,8 @@ use Rattle.formula.specs.Inner.Right.{Below}
 use Rattle.formula.specs.Truths.{truthBy, truthFrom, truthsOf, truthOf}
 use Rattle.clausal.specs.Clauses.{Row, rowBy, joinAll, clauses, Clause, Renaming}
 use Rattle.clausal.specs.Output.{wholeOf, outputOf}
-use Rattle.clausal.specs.Meanings.{literalTrue, clauseTrue, satisfies, truths}
+use Rattle.clausal.specs.Meanings.{literalTrue, clauseTrue, satisfies}
+use Rattle.clausal.specs.Inner.Extended.{truths}
 use Rattle.clausal.proofs.Related.{Keeps, keeps-of-map, related-whole}
 use Rattle.clausal.proofs.Rows.{ruleAt, rule-same}
 use Rattle.formula.specs.declared.node.Kind.{Kind}

@@ -4,3 +4,4 @@ pub mod Output
 pub mod Totals
 pub mod Calls
 pub mod Meanings
+pub mod Inner

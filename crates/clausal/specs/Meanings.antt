@@ -1,14 +1,13 @@
 -- R3.10, R3.11, R12.8, R15.9, R15.10: truth of clauses, rows with helpers, and where a variable of the output comes from.
 -- Assumes nothing: these are definitions.
-use mathlib.Core.Bool.{Bool, true, false, cond, _&&_, _||_, Bool·beq}
+use mathlib.Core.Bool.{Bool, true, false, _&&_, _||_, Bool·beq}
 use mathlib.Core.List.{List, [], _∷_}
 use mathlib.Core.Path.{_≡_}
-use Prim.Native.Nat.{ℕ, zero, suc, _<_, _≤_}
-use lib.Dec.{eqb}
+use Prim.Native.Nat.{ℕ, _<_, _≤_}
 use lib.ListN.{length}
 use Rattle.formula.specs.Checks.{renamed}
 use Rattle.formula.specs.Truths.{truthOf}
-use Rattle.clausal.specs.Clauses.{Algebra, Literal, Clause, Renaming, helperOf}
+use Rattle.clausal.specs.Clauses.{Literal, Clause, Renaming, helperOf}
 use Rattle.formula.specs.declared.node.Node.{Node}
 use Rattle.laws.specs.Lists.{Every}
 use Rattle.formula.specs.Tables.{nodeIn}
@@ -27,25 +26,6 @@ clauseTrue ρ (l ∷ c) = literalTrue ρ l || clauseTrue ρ c
 abbrev pub satisfies : (ℕ → Bool) → List Clause → Bool
 satisfies ρ [] = true
 satisfies ρ (c ∷ cs) = clauseTrue ρ c && satisfies ρ cs
-
--- truth, collected as clause lists are
-abbrev pub truths : (ℕ → Bool) → Algebra Bool
-truths ρ = record {
-  none = true;
-  empty = false;
-  unit = λ plain v. Bool·beq plain (ρ v);
-  cat = _&&_;
-  join = _||_;
-}
-
--- R15.10: the row ρ, but that the helper of each renamed node below n takes its node's truth in ρ
-unfoldable pub withHelpers : (ℕ → Bool) → Renaming → List Node → ℕ → ℕ → Bool
-withHelpers ρ u ns zero x = ρ x
-withHelpers ρ u ns (suc n) x =
-    cond (renamed (u .set) n) (cond (eqb x (helperOf u n)) (truthOf ρ ns n) (withHelpers ρ u ns n x)) (withHelpers ρ u ns n x)
-
-abbrev pub extended : (ℕ → Bool) → Renaming → List Node → ℕ → Bool
-extended ρ u ns = withHelpers ρ u ns (length ns)
 
 -- R15.10: τ has the values of ρ on the options 1 to V, and each helper at its node's truth in ρ
 pub record Extends (v : ℕ) (u : Renaming) (ns : List Node) (ρ τ : ℕ → Bool) : Type 0 where

@@ -8,7 +8,8 @@ use native.Mathlib.Numerals.{add-one}
 use native.Mathlib.Omega.{arith}
 use lib.ListN.{length, set, take, drop, length-append, take-append-drop}
 use lib.Seq.{set-split, take-at}
-use Rattle.laws.specs.Lists.{splice, Stored}
+use Rattle.laws.specs.Lists.{splice}
+use Rattle.laws.specs.Inner.Stores.{Stored}
 use Rattle.laws.proofs.Splices.{splice-splice, length-splice}
 
 pub stored-nothing : (l : List ℕ) (at : ℕ) → Stored [] l at at l

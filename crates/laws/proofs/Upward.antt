@@ -11,7 +11,8 @@ use lib.Dec.{eqb, leb}
 use lib.ListN.{length, getD, set, take, length-append}
 use lib.Seq.{getD-append-seam, take-append-le, take-all, getD-take}
 use borrow.Author.Tests.{eqb-true, eqb-false, leb-true, leb-false}
-use Rattle.laws.specs.Lists.{padTo, grow, upTo}
+use Rattle.laws.specs.Lists.{grow, upTo}
+use Rattle.laws.specs.Inner.Stores.{padTo}
 use Rattle.laws.proofs.Arrays.{pad-more}
 
 module _ {A : Type 0} (f : List A → ℕ → A) where

@@ -8,7 +8,8 @@ use native.Mathlib.Nat.{add-assoc}
 use native.Mathlib.Numerals.{add-one}
 use native.Mathlib.Omega.{arith}
 use lib.ListN.{length, set, replicate}
-use Rattle.laws.specs.Lists.{padTo, upTo}
+use Rattle.laws.specs.Lists.{upTo}
+use Rattle.laws.specs.Inner.Stores.{padTo}
 use Rattle.laws.proofs.Upward.{pad-upTo}
 use Rattle.formula.specs.Tables.{mostNodes}
 use Rattle.formula.specs.Checks.{renamed}

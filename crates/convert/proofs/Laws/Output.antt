@@ -19,9 +19,10 @@ use Rattle.formula.specs.Checks.{renamed, operator, reached, mayRename, byteRig
 use Rattle.formula.specs.declared.mark.Halves.{Halves}
 use Rattle.formula.specs.declared.node.Node.{Node}
 use Rattle.formula.proofs.Laws.Sets.{RightSet, right-set}
+use Rattle.clausal.specs.Inner.Places.{contentsOf}
 use Rattle.clausal.specs.Clauses.{clauses, joinAll, Literal, Clause, Renaming, helperOf, nameOf, rowOf}
 use Rattle.clausal.specs.Output.{Part, rootPart, downPart, upPart, definition, definitions, partsOf, outputOf}
-use Rattle.clausal.proofs.Places.{contentsOf, output-contents}
+use Rattle.clausal.proofs.Places.{output-contents}
 use Rattle.clausal.proofs.Helpers.{helper-some, name-renamed, name-plain, renamed-inside}
 use Rattle.convert.specs.Inner.Helpers.{helpersOf}
 use Rattle.convert.specs.Inner.Lists.{namesIn, ownList}

@@ -6,7 +6,8 @@ use Prim.Native.Nat.{ℕ, _+_, _≤_}
 use native.Mathlib.Omega.{arith}
 use lib.ListN.{length, length-append}
 use denote.Ref.{RefT, at-last}
-use Rattle.laws.specs.Lists.{splice, Stored}
+use Rattle.laws.specs.Lists.{splice}
+use Rattle.laws.specs.Inner.Stores.{Stored}
 use Rattle.laws.proofs.Stored.{stored-nothing, stored-length, room-left, room-right, stored-both}
 use Rattle.clausal.specs.Clauses.{Literal, Clause}
 use Rattle.convert.specs.Inner.Lists.{shownAll}

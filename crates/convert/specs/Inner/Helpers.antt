@@ -4,7 +4,8 @@ use mathlib.Core.List.{List}
 use mathlib.Core.Path.{_≡_}
 use Prim.Native.Nat.{ℕ, _≤_}
 use lib.ListN.{length, replicate}
-use Rattle.laws.specs.Lists.{padTo, upTo}
+use Rattle.laws.specs.Lists.{upTo}
+use Rattle.laws.specs.Inner.Stores.{padTo}
 use Rattle.formula.specs.Tables.{mostNodes, mostOptions}
 use Rattle.clausal.specs.Clauses.{Renaming, nameOf}
 

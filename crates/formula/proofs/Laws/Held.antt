@@ -9,7 +9,7 @@ use lib.Dec.{ltb}
 use lib.ListN.{length, getD, set, replicate, length-map, length-replicate, length-set, List·getD-map, replicate-append-replicate}
 use lib.Seq.{set-out}
 use borrow.Author.Tests.{ltb-true, ltb-false, lt-ltb, le-ltb}
-use Rattle.laws.specs.Lists.{padTo}
+use Rattle.laws.specs.Inner.Stores.{padTo}
 use Rattle.laws.proofs.Arrays.{getD-pad, pad-set}
 use Rattle.formula.specs.Tables.{mostNodes}
 use Rattle.formula.specs.Marks.{unmarked, positive, joined, toA, toB, markIn, mark, passOn, rootMarked}

@@ -5,7 +5,7 @@ use Prim.Native.Nat.{ℕ, _+_, _≤_}
 use native.Mathlib.Omega.{arith}
 use borrow.Author.Needs.{needs}
 use lib.ListN.{length}
-use Rattle.laws.specs.Lists.{Stored}
+use Rattle.laws.specs.Inner.Stores.{Stored}
 use Rattle.laws.proofs.Stored.{room-left, room-right, stored-both}
 use Rattle.clausebytes.specs.Words.{wordsOf}
 use Rattle.dimacs.specs.Texts.{headerLine}

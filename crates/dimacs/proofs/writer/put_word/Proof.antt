@@ -5,7 +5,7 @@ use Prim.Native.Nat.{ℕ, _+_, _≤_}
 use native.Mathlib.Omega.{arith}
 use borrow.Author.Needs.{needs}
 use lib.ListN.{length}
-use Rattle.laws.specs.Lists.{Stored}
+use Rattle.laws.specs.Inner.Stores.{Stored}
 use Rattle.laws.proofs.Stored.{room-right, stored-both, stored-as}
 use Rattle.text.specs.Texts.{decimal}
 use Rattle.clausebytes.specs.Words.{literalOf}

@@ -5,7 +5,8 @@ use Prim.Native.Nat.{ℕ, _+_, _≤_}
 use native.Mathlib.Omega.{arith}
 use lib.ListN.{length, set, length-set}
 use borrow.Author.Needs.{needs}
-use Rattle.laws.specs.Lists.{splice, Stored}
+use Rattle.laws.specs.Lists.{splice}
+use Rattle.laws.specs.Inner.Stores.{Stored}
 use Rattle.laws.specs.Numbers.{little}
 use Rattle.laws.proofs.Stored.{stored-byte, stored-both, stored-length}
 use Rattle.formula.specs.Tables.{fieldBytes, nodeBytes, nodeRecord}
