@@ -126,7 +126,8 @@ module _ (ρ : ℕ → Bool) where
   all-complete (guard {g = g} {gs = gs} o l m h f) τ (more e es) (more t ts) =
       let own : T (satisfies τ (decoded g)) =
       m .complete ρ τ (subst⁻¹ (λ (v : ℕ). Extends v (names g) (nodes g) ρ τ) o e) t in
-      subst⁻¹ T (satisfies-append τ (decoded g) (allClauses gs)) (and-both (satisfies τ (decoded g)) (satisfies τ (allClauses gs)) own (all-complete f τ es ts))
+      subst⁻¹ T (satisfies-append τ (decoded g) (allClauses gs))
+      (and-both (satisfies τ (decoded g)) (satisfies τ (allClauses gs)) own (all-complete f τ es ts))
 
 pub together : {v : ℕ} {gs : List Guard} → Follows v v gs → Together v gs
 together f = record {

@@ -127,7 +127,8 @@ module _ (w : Write) (r : Read) (z : writeSeen w .returned ≡ 0)
       let zeroed : readSeen r .returned ≡ 0 = own .0 ∙ ap (λ (x : Wrote (List ℕ)). toldOf (x .answer) .number) read-again in
       let given = gives (readSeen r) (readWrote r) (r .promise) (declared w) answered (over bytes (readSeen r .before))
       (zero (readSeen r) (readWrote r) (r .promise) zeroed) read-again in
-      let written = gives (writeSeen w) (writeWrote w) (w .promise .0) (declared w) answered (over text (writeSeen w .before)) done (wrote .1) in
+      let written = gives (writeSeen w) (writeWrote w) (w .promise .0) (declared w) answered (over text (writeSeen w .before)) done
+      (wrote .1) in
       (zeroed, given .values ∙ sym (written .values), given .outputs)
 
 pub demand2 : Demand2

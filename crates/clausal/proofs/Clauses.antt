@@ -5,7 +5,8 @@ use mathlib.Core.Path.{_≡_, refl, sym, ap, _∙_}
 use mathlib.Core.Bool.{Bool, true, false}
 use mathlib.Core.List.{List, [], _∷_, _++_, map}
 use Prim.Native.Nat.{ℕ, zero, suc, _+_, _*_, _-_, _/_, _%_, _≤_, _<_}
-use native.Mathlib.Nat.{div-eq-of-lt, mod-eq-of-lt, add-div-left, add-mod-left, suc-mul, zero-mul, mul-zero, not-suc-le-zero, mod-lt, div-lt-iff-lt-mul}
+use native.Mathlib.Nat.{div-eq-of-lt, mod-eq-of-lt, add-div-left, add-mod-left, suc-mul, zero-mul, mul-zero, not-suc-le-zero, mod-lt}
+use native.Mathlib.Nat.{div-lt-iff-lt-mul}
 use native.Mathlib.Numerals.{add-one}
 use native.Mathlib.Omega.{arith}
 use lib.Dec.{ltb}

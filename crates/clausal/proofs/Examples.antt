@@ -8,7 +8,8 @@ use Rattle.formula.specs.Marks.{downFrom}
 use Rattle.clausal.specs.Totals.{visitsFrom}
 use Rattle.clausal.specs.Clauses.{renamedBelow}
 use Rattle.clausal.specs.Output.{definitions}
-use Rattle.clausal.proofs.Notation.{nothing, renamed, allowed, Example, all, holds, p, n, false-node, true-node, symbol, not-of, and-of, or-of, implies-of, equivalent-of}
+use Rattle.clausal.proofs.Notation.{nothing, renamed, allowed, Example, all, holds, p, n, false-node, true-node, symbol, not-of}
+use Rattle.clausal.proofs.Notation.{and-of, or-of, implies-of, equivalent-of}
 
 -- E = s1 equivalent s2, root E equivalent E, shared
 abbrev seven : List ℕ

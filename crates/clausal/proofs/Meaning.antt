@@ -135,7 +135,8 @@ module _ (ns : List Node) (u : Renaming) (ρ : ℕ → Bool)
       as-seen j l own = go (renamed (u .set) j) refl
         where
           go : (b : Bool) → renamed (u .set) j ≡ b → Under Gives (markOf ns j) (child ns u ρ j) (truth ns u ρ j)
-          go false e = subst⁻¹ (λ (x : Row Bool). Under Gives (markOf ns j) x (truth ns u ρ j)) (seen-plain (truths ρ) u j (row ns u ρ j) e) own
+          go false e = subst⁻¹ (λ (x : Row Bool). Under Gives (markOf ns j) x (truth ns u ρ j))
+              (seen-plain (truths ρ) u j (row ns u ρ j) e) own
           go true e =
               let d : Defines ρ u ns j = all .defines j l e in
               subst⁻¹ (λ (x : Row Bool). Under Gives (markOf ns j) x (truth ns u ρ j)) (seen-renamed (truths ρ) u j (row ns u ρ j) e)

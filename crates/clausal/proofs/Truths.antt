@@ -2,7 +2,8 @@
 -- that algebra is the node's truth.
 -- Assumes nothing.
 use mathlib.Core.Path.{_≡_, refl, sym, ap, _∙_}
-use mathlib.Core.Bool.{Bool, true, false, not, _&&_, _||_, Bool·beq, and-assoc, or-assoc, or-false, and-true, or-true, or-and-distrib-left, or-and-distrib-right}
+use mathlib.Core.Bool.{Bool, true, false, not, _&&_, _||_, Bool·beq, and-assoc, or-assoc, or-false, and-true, or-true, or-and-distrib-left}
+use mathlib.Core.Bool.{or-and-distrib-right}
 use mathlib.Core.List.{List, [], _∷_, _++_, map}
 use Prim.Native.Nat.{ℕ, _<_, _≤_}
 use native.Mathlib.Omega.{arith}
@@ -133,4 +134,5 @@ module _ (ρ τ : ℕ → Bool) where
 pub truth-options : (t : List ℕ) (v : ℕ) → checked t v ≡ Accepted 0 0 → (ρ τ : ℕ → Bool)
     → ((x : ℕ) → 0 < x → x ≤ v → ρ x ≡ τ x) → (i : ℕ) → truthOf ρ (nodesOf t) i ≡ truthOf τ (nodesOf t) i
 truth-options t v accepted ρ τ same i =
-    truth-same ρ τ (nodesOf t) (λ j e. let r = accepted-well-formed t v 0 0 accepted .symbols j e in same (nodeIn (nodesOf t) j .a) (r .0) (r .1)) i
+    truth-same ρ τ (nodesOf t) (λ j e. let r = accepted-well-formed t v 0 0 accepted .symbols j e in same (nodeIn (nodesOf t) j .a) (r .0)
+    (r .1)) i

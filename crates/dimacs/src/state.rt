@@ -2,7 +2,8 @@
 ghost use mathlib.Core.Path.{_≡_};
 ghost use Prim.Native.Nat.{_<_};
 ghost use Rattle.text.specs.Inner.Heads.{lastPlace};
-ghost use Rattle.dimacs.specs.Inner.States.{startOf, toOf, deadOf, takenOf, closeOf, openOf, begunOf, turnOf, moveOf, steppedOf, accepts};
+ghost use Rattle.dimacs.specs.Inner.States.{startOf, toOf, deadOf, takenOf, closeOf, openOf, begunOf, turnOf, moveOf, steppedOf};
+ghost use Rattle.dimacs.specs.Inner.States.{accepts};
 use crate::class::class_of;
 use crate::phase::Act;
 use crate::phase::Phase;

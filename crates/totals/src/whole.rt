@@ -49,7 +49,8 @@ fn with_node(
     sum: Total,
 ) -> Total
     requires { ⌜ i < mostNodes ⌝ }
-    ensures { λ r. ⌜ r ≡ asTotal (withNode capped (renamed (now (set .entry)) i) 0 (heldAt (now (marks .entry)) i) (rowIn (now (clauses .entry)) (now (literals .entry)) i) (sized sum)) ⌝ }
+    ensures { λ r. ⌜ r ≡ asTotal (withNode capped (renamed (now (set .entry)) i) 0 (heldAt (now (marks .entry)) i)
+        (rowIn (now (clauses .entry)) (now (literals .entry)) i) (sized sum)) ⌝ }
 {
     if !is_renamed(set, i) {
         return sum;

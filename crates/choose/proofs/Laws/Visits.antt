@@ -101,7 +101,8 @@ module _ (allowance : ℕ) (ns : List Node) (i : ℕ) (picks : ℕ) (s : List �
           → Attempted ns i before (record { picks = picks; chosen = set after i 0 }) sum ds ms
       rejected below h =
           let back : set after i 0 ≡ s =
-          ap (λ (l : List ℕ). set l i 0) (t .in-set) ∙ set-set s i 1 0 ∙ ap (set s i) (sym (stands .low i (omega arith))) ∙ set-getD s i 0 in
+          ap (λ (l : List ℕ). set l i 0) (t .in-set) ∙ set-set s i 1 0 ∙ ap (set s i) (sym (stands .low i (omega arith)))
+          ∙ set-getD s i 0 in
           let up : Ready (set s i 1) ns i ds ms =
           ready-less (set s i 1) ns i (length ns) ds ms (omega arith)
           (subst (λ (l : List ℕ). Ready l ns (length ns) ds ms) (t .in-set) (t .ready)) in

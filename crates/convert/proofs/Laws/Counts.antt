@@ -36,14 +36,22 @@ module _ (ns : List Node) (cs ls : List (List ℕ)) (helpers : List ℕ)
       sizes : Row (List Clause) → Row Size
       sizes r = record { P = shown (sizeOf (r .P)); N = shown (sizeOf (r .N)) }
 
-      row : rowIn cs ls n ≡ record { P = shown (sizeOf (rowOf clauses (namesIn helpers) ns n .P)); N = shown (sizeOf (rowOf clauses (namesIn helpers) ns n .N)) }
+      row : rowIn cs ls n ≡ record {
+        P = shown (sizeOf (rowOf clauses (namesIn helpers) ns n .P));
+        N = shown
+            (sizeOf (rowOf clauses (namesIn helpers) ns n .N));
+      }
       row =
           rows n
           ∙ capped-row clauseCeiling literalCeiling (lit< tt) (lit< tt) (namesIn helpers) ns n
           ∙ ap (λ (r : Row Size). record { P = shown (r .P); N = shown (r .N) }) (sym (size-row (namesIn helpers) ns n))
 
       go : (z : Bool)
-          → signed z (record { P = shown (sizeOf (rowOf clauses (namesIn helpers) ns n .P)); N = shown (sizeOf (rowOf clauses (namesIn helpers) ns n .N)) })
+          → signed z (record {
+            P = shown (sizeOf (rowOf clauses (namesIn helpers) ns n .P));
+            N = shown
+                (sizeOf (rowOf clauses (namesIn helpers) ns n .N));
+          })
           ≡ shown (sizeOf (ownList (namesIn helpers) ns n z))
       go true = refl
       go false = refl

@@ -67,7 +67,8 @@ module _ (u : Renaming) (ns : List Node) where
     down-written : partOf (nameOf u) ns i true ≡ downPart clauses u ns i .content
     down-written =
         helped true
-        ∙ ap (λ (b : Bool). map (λ c. cond b [] (literal false (helperOf u i) ∷ []) ++ (c ++ [])) (ownList (nameOf u) ns i true)) (helper-some u i)
+        ∙ ap (λ (b : Bool). map (λ c. cond b [] (literal false (helperOf u i) ∷ []) ++ (c ++ [])) (ownList (nameOf u) ns i true))
+        (helper-some u i)
         ∙ down-join (literal false (helperOf u i)) (ownList (nameOf u) ns i true)
 
     up-written : partOf (nameOf u) ns i false ≡ upPart clauses u ns i .content
@@ -88,13 +89,16 @@ module _ (u : Renaming) (ns : List Node) where
       halves false false e = refl
 
       go : (b : Bool) → renamed (u .set) i ≡ b → definedBy (nameOf u) ns i
-          ≡ contentsOf (cond b (cond (halvesOf (markOf ns i) .down) (downPart clauses u ns i ∷ []) [] ++ cond (halvesOf (markOf ns i) .up) (upPart clauses u ns i ∷ []) []) [])
+          ≡ contentsOf (cond b (cond (halvesOf (markOf ns i) .down) (downPart clauses u ns i ∷ []) [] ++ cond (halvesOf (markOf ns i) .up)
+          (upPart clauses u ns i ∷ []) []) [])
       go true e =
-          ap (λ (b : Bool). cond b [] (half (nameOf u) ns (halvesOf (markOf ns i) .down) i true ++ half (nameOf u) ns (halvesOf (markOf ns i) .up) i false))
+          ap (λ (b : Bool). cond b [] (half (nameOf u) ns (halvesOf (markOf ns i) .down) i true ++ half (nameOf u) ns
+          (halvesOf (markOf ns i) .up) i false))
           (ap (λ (h : ℕ). eqb h 0) (name-renamed u i e) ∙ helper-some u i)
           ∙ halves (halvesOf (markOf ns i) .down) (halvesOf (markOf ns i) .up) e
       go false e =
-          ap (λ (b : Bool). cond b [] (half (nameOf u) ns (halvesOf (markOf ns i) .down) i true ++ half (nameOf u) ns (halvesOf (markOf ns i) .up) i false))
+          ap (λ (b : Bool). cond b [] (half (nameOf u) ns (halvesOf (markOf ns i) .down) i true ++ half (nameOf u) ns
+          (halvesOf (markOf ns i) .up) i false))
           (eq-eqb (nameOf u i) 0 (name-plain u i e))
 
   defined-to : (n : ℕ) → definedTo (nameOf u) ns n ≡ contentsOf (definitions clauses u ns n)
@@ -139,11 +143,13 @@ module _ (u : Renaming) (ns : List Node) where
   names-are helpers e size = λ j i. at i j
     where
       at : (i : ℕ) → namesIn helpers i ≡ nameOf u i
-      at i = ap (λ (l : List ℕ). getD l i 0) e ∙ getD-pad 0 mostNodes (upTo (λ before k. nameOf u k) (length ns)) i ∙ go (decLt i (length ns))
+      at i = ap (λ (l : List ℕ). getD l i 0) e ∙ getD-pad 0 mostNodes (upTo (λ before k. nameOf u k) (length ns)) i ∙ go
+          (decLt i (length ns))
         where
           go : Dec (i < length ns) → getD (upTo (λ before k. nameOf u k) (length ns)) i 0 ≡ nameOf u i
           go (yes h) = getD-upTo (λ before k. nameOf u k) 0 i (length ns) h
           go (no h) =
               let past : renamed (u .set) i ≡ false = ap (λ (b : ℕ). eqb b 1) (List·getD-eq-default (u .set) 0 (omega arith)) in
-              List·getD-eq-default (upTo (λ before k. nameOf u k) (length ns)) 0 (omega (arith, length-upTo (λ before k. nameOf u k) (length ns)))
+              List·getD-eq-default (upTo (λ before k. nameOf u k) (length ns)) 0
+              (omega (arith, length-upTo (λ before k. nameOf u k) (length ns)))
               ∙ sym (name-plain u i past)

@@ -60,7 +60,8 @@ module _ (name : ℕ → ℕ) (ns : List Node) (n : ℕ) where
       let e = ne-eqb (name n) 0 d in
       ap (λ (b : Bool). getD (signed sign (shows b)) k []) e ∙ go sign (subst (λ (b : Bool). k < length (signed sign (shows b))) e h)
     where
-      go : (z : Bool) → k < length (signed z (unitRow clauses (name n))) → getD (signed z (unitRow clauses (name n))) k [] ≡ record { plain = z; variable = name n } ∷ []
+      go : (z : Bool) → k < length (signed z (unitRow clauses (name n))) → getD (signed z (unitRow clauses (name n))) k []
+          ≡ record { plain = z; variable = name n } ∷ []
       go true g = only (record { plain = true; variable = name n } ∷ []) k g
       go false g = only (record { plain = false; variable = name n } ∷ []) k g
 

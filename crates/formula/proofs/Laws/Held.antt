@@ -48,7 +48,8 @@ held-set ms i m h =
 pub heldMore-held : (ms : List Mark) (i : ℕ) (m : Mark) → heldMore (length ms) (held ms) i m ≡ held (mark i m ms)
 heldMore-held ms i m = go (ltb i (length ms)) refl
   where
-    go : (b : Bool) → ltb i (length ms) ≡ b → cond b (set (held ms) i (byteOf (joined (heldAt (held ms) i) m))) (held ms) ≡ held (mark i m ms)
+    go : (b : Bool) → ltb i (length ms) ≡ b → cond b (set (held ms) i (byteOf (joined (heldAt (held ms) i) m))) (held ms)
+        ≡ held (mark i m ms)
     go true e =
         ap (λ (x : Mark). set (held ms) i (byteOf (joined x m))) (heldAt-held ms i)
         ∙ held-set ms i (joined (markIn ms i) m) (ltb-true i (length ms) e)
@@ -59,7 +60,8 @@ heldPassed-held ms i n =
     let m : Mark = markIn ms i in
     let before : List Mark = mark (n .a) (toA (n .kind) m) ms in
     let len : length ms ≡ length before = sym (length-set ms (n .a) (joined (markIn ms (n .a)) (toA (n .kind) m))) in
-    ap (λ (x : Mark). heldMore (length ms) (heldMore (length ms) (held ms) (n .a) (toA (n .kind) x)) (n .b) (toB (n .kind) x)) (heldAt-held ms i)
+    ap (λ (x : Mark). heldMore (length ms) (heldMore (length ms) (held ms) (n .a) (toA (n .kind) x)) (n .b) (toB (n .kind) x))
+    (heldAt-held ms i)
     ∙ ap (λ (l : List ℕ). heldMore (length ms) l (n .b) (toB (n .kind) m)) (heldMore-held ms (n .a) (toA (n .kind) m))
     ∙ ap (λ (k : ℕ). heldMore k (held before) (n .b) (toB (n .kind) m)) len
     ∙ heldMore-held before (n .b) (toB (n .kind) m)

@@ -35,7 +35,8 @@ answered c =
     let test = if1 .before in
     let known = test .before .before in
     let start = known .before .before .before .before in
-    leaves-right (start .args .answer .now) (start .args .out .now) (wrote start) (record { answer = call .convert .result; output = call .convert .last .1 .1 .1 .0 })
+    leaves-right (start .args .answer .now) (start .args .out .now) (wrote start)
+    (record { answer = call .convert .result; output = call .convert .last .1 .1 .1 .0 })
     _ (test .is-part-wrong .ensures) (if1 .if1 .left) (call .convert .ensures) (give .give .ensures)
 
 pub simbolufa-convert-spec : {M : Type 1} → statement M

@@ -26,7 +26,8 @@ use Rattle.totals.specs.Inner.Columns.{cell, rowIn, childIn, rowNext, ro
 use Rattle.totals.specs.Inner.Sized.{asTotal, rowed, asRow}
 use Rattle.totals.specs.declared.rows.Row.{Row}
 use Rattle.totals.specs.declared.total.Total.{Total}
-use Rattle.totals.proofs.Laws.Grids.{putBoth, both-shaped, both-positive, both-negative, both-other, zeros, zeros-shaped, zeros-cell, same-cells}
+use Rattle.totals.proofs.Laws.Grids.{putBoth, both-shaped, both-positive, both-negative, both-other, zeros, zeros-shaped, zeros-cell}
+use Rattle.totals.proofs.Laws.Grids.{same-cells}
 
 -- the row of a node, from the totals of its P and its N
 pub ruled : (kind k : Kind) (a : ℕ) (x y : algebra.Row Size) (p n : Total) → kind ≡ k

@@ -90,7 +90,8 @@ module _ (ns : List Node) (below : (j : ℕ) → Below j (nodeIn ns j)) (u : Ren
   elsewhere : (j : ℕ) → eqb j i ≡ false → renamed (w .set) j ≡ renamed (u .set) j
   elsewhere j e = renamed-set-other (u .set) i 1 j (eqb-false j i e)
 
-  fewer-seen : (k : ℕ) → Under Fewer both (rowU k) (rowW k) → Under Fewer both (seenOf capped (nameOf u) ns k) (seenOf capped (nameOf w) ns k)
+  fewer-seen : (k : ℕ) → Under Fewer both (rowU k) (rowW k)
+      → Under Fewer both (seenOf capped (nameOf u) ns k) (seenOf capped (nameOf w) ns k)
   fewer-seen k h = go (eqb k i) refl (renamed (u .set) k) refl
     where
       go : (b : Bool) → eqb k i ≡ b → (c : Bool) → renamed (u .set) k ≡ c

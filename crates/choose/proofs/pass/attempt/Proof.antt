@@ -42,7 +42,14 @@ still-inside c =
     let toward-start = trial .before .before .before .before in
     let start = toward-start .before .before .before in
     let a = start .args in
-    omega (arith, ap length (trial .trial .ensures .in-set), length-set (a .set .now) (a .i) 1, start .pre .stands .size, start .pre .inside, length-nodesOf (a .table .now))
+    omega (
+      arith,
+      ap length (trial .trial .ensures .in-set),
+      length-set (a .set .now) (a .i) 1,
+      start .pre .stands .size,
+      start .pre .inside,
+      length-nodesOf (a .table .now),
+    )
 
 not-lower : tie.Need-returns-2
 not-lower c =

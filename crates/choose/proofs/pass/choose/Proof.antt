@@ -36,7 +36,8 @@ chosen c =
     let check = if1 .before .before in
     let start = check .before .before .before in
     accepted-wrote _ _ _ (check .check .ensures) (if1 .before .is-refusal .ensures) (start .args .set .now) _ _ (if1 .if1 .left)
-    (under .choose-under .ensures ∙ chosen-options 0 (start .args .options) (nodesOf (start .args .table .now)) (start .args .allowance) (start .args .set .now))
+    (under .choose-under .ensures ∙ chosen-options 0 (start .args .options) (nodesOf (start .args .table .now)) (start .args .allowance)
+    (start .args .set .now))
 
 pub choose-spec : {M : Type 1} → statement M
 choose-spec =

@@ -15,7 +15,8 @@ use Rattle.convert.proofs.part.put_helper.Tie as tie
 elsewhere : tie.Need-returns
 elsewhere c =
     let a = c .before .args in
-    put-as (ap (shownAll literalBytes) (not-here (a .here) (a .plain) (a .helper) (not-true (a .here) (c .if1 .taken)))) (put-nothing (a .out .now) (a .at))
+    put-as (ap (shownAll literalBytes) (not-here (a .here) (a .plain) (a .helper) (not-true (a .here) (c .if1 .taken))))
+    (put-nothing (a .out .now) (a .at))
 
 none : tie.Need-returns-2
 none c =

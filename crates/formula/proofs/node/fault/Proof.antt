@@ -42,12 +42,22 @@ wrong-a c = rw (kind-right (c .before .before .before), sym (a-is (c .before)) �
 wrong-b : tie.Need-returns-3
 wrong-b c =
     let second = c .before .before .before in
-    rw (kind-right (second .before .before .before), a-right second, sym (b-is (c .before)) ∙ not-true (c .before .is-right2 .result) (c .if3 .taken))
+    rw (
+      kind-right (second .before .before .before),
+      a-right second,
+      sym (b-is (c .before)) ∙ not-true (c .before .is-right2 .result)
+          (c .if3 .taken),
+    )
 
 right : tie.Need-returns-4
 right c =
     let second = c .before .before .before in
-    rw (kind-right (second .before .before .before), a-right second, sym (b-is (c .before)) ∙ not-false (c .before .is-right2 .result) (c .if3 .left))
+    rw (
+      kind-right (second .before .before .before),
+      a-right second,
+      sym (b-is (c .before)) ∙ not-false (c .before .is-right2 .result)
+          (c .if3 .left),
+    )
 
 pub fault-spec : {M : Type 1} → statement M
 fault-spec =

@@ -44,7 +44,8 @@ returns c =
     let loop = c .before in
     let args = loop .before .before .before .args in
     let e : loop .loop .i ≡ nodeCount (args .table .now) = omega arith in
-    subst (λ (i : ℕ). Ready (args .set .now) (nodesOf (args .table .now)) i (loop .loop .clauses) (loop .loop .literals)) e (loop .loop .inv .1)
+    subst (λ (i : ℕ). Ready (args .set .now) (nodesOf (args .table .now)) i (loop .loop .clauses) (loop .loop .literals)) e
+    (loop .loop .inv .1)
 
 pub fill-spec : {M : Type 1} → statement M
 fill-spec =
