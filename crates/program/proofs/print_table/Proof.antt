@@ -1,82 +1,64 @@
--- `program::print_table` meets its contract: a refusal's line, or what the chosen set comes to. Assumes nothing.
-use mathlib.Core.Path.{_≡_, refl, sym, ap, _∙_}
-use mathlib.Core.Bool.{true, false}
-use mathlib.Core.List.{List}
-use Prim.Native.Nat.{ℕ, _/_, _≤_}
-use native.Mathlib.Omega.{arith}
 use borrow.Author.Needs.{needs}
-use lib.ListN.{length, take, length-take}
-use Rattle.answer.specs.Numbers.{refuses}
-use Rattle.formula.specs.Limits.{nodeBytes}
-use Rattle.program.proofs.Laws.Lines.{shows-same}
-use Rattle.program.proofs.Laws.Tables.{choose-refused, choose-accepted}
 use Rattle.program.proofs.print_table.Statement.{statement}
 use Rattle.program.proofs.print_table.Tie as tie
+use Rattle.program.proofs.print_table.Reads as reads
+use Rattle.program.proofs.print_table.Lts as lts
+use Rattle.answer.proofs.is_refusal.Reads as is-refusal-reads
+use Rattle.choose.proofs.pass.choose.Reads as choose-reads
+use Rattle.program.proofs.print_set.Reads as print-set-reads
+use Rattle.program.proofs.refusal.put_refusal.Reads as put-refusal-reads
 
--- a byte a node
-module _ (c : tie.After-set-room) where
-  abbrev start : tie.Start
-  start = c .before .before .before
+-- src/lib.rt:62:15
+array-borrow-prefix-sets : tie.Need-array-borrow-prefix-sets
+array-borrow-prefix-sets c = search needs
 
-  abbrev count : ℕ
-  count = length (start .args .table .now) / nodeBytes
+-- src/lib.rt:62:9
+slice-aggregate-set : tie.Need-slice-aggregate-set
+slice-aggregate-set c = ?
 
-  bytes : length (take count (c .set-room .result)) ≡ count
-  bytes = length-take count (c .set-room .result) ∙ omega (arith, start .pre .0, c .set-room .ensures)
+-- src/lib.rt:63:9
+choose-requires : tie.Need-choose-requires
+choose-requires c κs = search needs
 
-cut : tie.Need-slice-aggregate-set
-cut c = sym (bytes (c .before))
+-- src/lib.rt:64:8
+is-refusal-requires : tie.Need-is-refusal-requires
+is-refusal-requires c κs = search needs
 
--- what choosing gave
-module _ (c : tie.After-is-refusal) where
-  abbrev call : tie.After-choose
-  call = c .before .before .before
+-- src/lib.rt:65:9
+put-refusal-requires : tie.Need-put-refusal-requires
+put-refusal-requires c κs = search needs
 
-  abbrev room : tie.After-set-room
-  room = call .before .before .before
+-- src/lib.rt:65:9
+same-length : tie.Need-same-length
+same-length c = search needs
 
-  abbrev out : List ℕ
-  out = call .choose .last .1 .1 .1 .0
+-- src/lib.rt:65:9
+returns : tie.Need-returns
+returns c = ?
 
-  refuses-as : refuses (call .choose .result) ≡ c .is-refusal .result
-  refuses-as = sym (c .is-refusal .ensures)
+-- src/lib.rt:67:5
+print-set-requires : tie.Need-print-set-requires
+print-set-requires c κs = search needs
 
-refused : tie.Need-returns
-refused c =
-    let put = c .before .before in
-    let if1 = put .before .before .before in
-    let tested = if1 .before in
-    let r = room tested in
-    let a = start r .args in
-    shows-same _ _ _ _ _ _
-    (choose-refused (a .table .now) (a .options) (take (count r) (r .set-room .result)) (bytes r) (call tested .choose .result) (out tested) (call tested .choose .ensures)
-    (refuses-as tested ∙ if1 .if1 .taken)) refl
-    (put .put-refusal .ensures)
+-- src/lib.rt:57:1
+same-length-2 : tie.Need-same-length-2
+same-length-2 c = search needs
 
-printed : tie.Need-returns-2
-printed c =
-    let print = c .before .before .before in
-    let if1 = print .before .before .before in
-    let tested = if1 .before in
-    let r = room tested in
-    let a = start r .args in
-    shows-same _ _ _ _ _ _
-    (choose-accepted (a .table .now) (a .options) (take (count r) (r .set-room .result)) (bytes r) (call tested .choose .result) (out tested) (call tested .choose .ensures)
-    (refuses-as tested ∙ if1 .if1 .left)) refl
-    (print .print-set .ensures)
+-- src/lib.rt:57:1
+returns-2 : tie.Need-returns-2
+returns-2 c = ?
 
 pub print-table-spec : {M : Type 1} → statement M
 print-table-spec =
     tie.close
     (tie.spec
-    (λ c κs. search needs)
-    (λ c. search needs)
-    cut
-    (λ c κs. search needs)
-    (λ c κs. search needs)
-    (λ c κs. search needs)
-    (λ c. search needs)
-    refused
-    (λ c κs. search needs)
-    (λ c. search needs)
-    printed)
+    array-borrow-prefix-sets
+    slice-aggregate-set
+    choose-requires
+    is-refusal-requires
+    put-refusal-requires
+    same-length
+    returns
+    print-set-requires
+    same-length-2
+    returns-2)

@@ -1,0 +1,20 @@
+-- Sizes of what the steps of the program hand on.
+-- Assumes nothing: these are definitions.
+use mathlib.Core.List.{List}
+use mathlib.Core.Path.{_≡_}
+use Prim.Native.Nat.{ℕ, _≤_}
+use lib.ListN.{length}
+use Rattle.answer.specs.Numbers.{toldOf}
+use Rattle.formula.specs.Limits.{mostTable}
+use Rattle.clausebytes.specs.Words.{roomOf}
+use Rattle.totals.specs.Measured.{measured}
+use Rattle.program.specs.Printed.{bufferBytes}
+
+-- the bytes for the clauses and literals that measuring tells
+abbrev pub sizeTold : List ℕ → ℕ → List ℕ → ℕ
+sizeTold t v s = roomOf (toldOf (measured t v s) .first) (toldOf (measured t v s) .second)
+
+-- a table that is not too long, and a buffer
+pub record Room (t out : List ℕ) : Type 0 where
+  pub table : length t ≤ mostTable
+  pub buffer : length out ≡ bufferBytes
