@@ -37,7 +37,8 @@ module _ (bytes : List ℕ) (v : ℕ) where
   said = Accepted v (length (clausesOf bytes))
 
   -- of a buffer only its length counts
-  answer-is : (l : List ℕ) → writeCall bytes v l .answer ≡ cond (wrongBytes bytes v) ClauseBytes (cond (ltb (length l) (length text)) Room said)
+  answer-is : (l : List ℕ)
+      → writeCall bytes v l .answer ≡ cond (wrongBytes bytes v) ClauseBytes (cond (ltb (length l) (length text)) Room said)
   answer-is l = go (wrongBytes bytes v) (ltb (length l) (length text))
     where
       wrote : Bool → Bool → Wrote (List ℕ)

@@ -98,7 +98,9 @@ module _ (t : List ℕ) (v : ℕ) (s before : List ℕ) (ok : refuses (converted
     taken n q = ap (λ (w : Wrote (List ℕ)). take n (w .output)) (e ∙ made) ∙ take-stored before bytes n (sym q)
 
     pub within : length bytes ≤ length o
-    within = omega (arith, room .0, ap (λ (w : Wrote (List ℕ)). length (w .output)) (e ∙ made), length-splice before 0 bytes (omega (arith, room .0)))
+    within =
+        let same = ap (λ (w : Wrote (List ℕ)). length (w .output)) (e ∙ made) in
+        omega (arith, room .0, same, length-splice before 0 bytes (omega (arith, room .0)))
 
     pub variables : toldOf a .first ≡ variablesOf u (length ns)
     variables = ap (λ (w : Wrote (List ℕ)). toldOf (w .answer) .first) (e ∙ made)

@@ -40,12 +40,13 @@ module _ (text : List ℕ) where
 
   module _ (before : List ℕ) (size : length before ≡ mostTable) where
     -- there is room for its table
-    fits : refuses (fileChecked text) ≡ false
-        → stored (fileChecked text) (fileTable text) before ≡ record { answer = fileChecked text; output = splice before 0 (fileTable text) }
+    fits : refuses (fileChecked text) ≡ false → stored (fileChecked text) (fileTable text) before
+        ≡ record { answer = fileChecked text; output = splice before 0 (fileTable text) }
     fits r =
         sym (stored-fits (fileChecked text) (fileTable text) before _ (omega (arith, table-fits text (right r .0))) refl)
 
-    pub read-printed : printed text ≡ unlessRefused (fileRead text before .answer) (tablePrinted (fileTable text) (optionCount (lineOf text 0)))
+    pub read-printed : printed text
+        ≡ unlessRefused (fileRead text before .answer) (tablePrinted (fileTable text) (optionCount (lineOf text 0)))
     read-printed =
         unless-checked (fileChecked text) before (stored (fileChecked text) (fileTable text) before)
         (tablePrinted (fileTable text) (optionCount (lineOf text 0)))

@@ -23,23 +23,31 @@ shows-stored {xs} {before} room s = record {
   within = omega (arith, s .place, stored-length {xs = xs} {l = before} {at = 0} (omega arith) s);
 }
 
+-- the same bytes in the same buffer
+pub shows-as : {xs ys before was after : List ℕ} {count : ℕ} → xs ≡ ys → before ≡ was → Shows ys was count after → Shows xs before count after
+shows-as {ys = ys} {before} {after = after} {count} e f s =
+    subst⁻¹ (λ (l : List ℕ). Shows l before count after) e (subst⁻¹ (λ (l : List ℕ). Shows ys l count after) f s)
+
 -- what is printed goes by an answer b; a is b, and was tested
-module _ (line : List ℕ) (b : Answer) (next : List ℕ) (q : line ≡ unlessRefused b next) (a : Answer) (e : a ≡ b) (r : Bool) (f : r ≡ refuses a) where
+module _ (line : List ℕ) (b : Answer) (next : List ℕ) (q : line ≡ unlessRefused b next)
+    (a : Answer) (e : a ≡ b) (r : Bool) (f : r ≡ refuses a) where
   goes : (t : Bool) → r ≡ t → line ≡ cond t (refusalLine b) next
   goes t g = q ∙ ap (λ (u : Bool). cond u (refusalLine b) next) (tested a b r e f t g)
 
-  pub shows-refused : {before after : List ℕ} {count : ℕ} → r ≡ true → Shows (refusalLine a) before count after → Shows line before count after
-  shows-refused {before} {after} {count} g = subst⁻¹ (λ (xs : List ℕ). Shows xs before count after) (goes true g ∙ ap refusalLine (sym e))
+  pub line-refused : r ≡ true → line ≡ refusalLine a
+  line-refused g = goes true g ∙ ap refusalLine (sym e)
 
-  pub shows-accepted : {before after : List ℕ} {count : ℕ} {ys : List ℕ} → r ≡ false → next ≡ ys → Shows ys before count after → Shows line before count after
-  shows-accepted {before} {after} {count} g p = subst⁻¹ (λ (xs : List ℕ). Shows xs before count after) (goes false g ∙ p)
+  pub line-accepted : r ≡ false → line ≡ next
+  line-accepted g = goes false g
 
--- what a call that checks first answers prints the same as its check
-pub unless-checked : {O : Type 0} (c : Answer) (before : O) (w : Wrote O) (next : List ℕ) → (refuses c ≡ false → refuses (w .answer) ≡ false)
+-- a call that checks first refuses as its check does
+pub unless-checked : {O : Type 0} (c : Answer) (before : O) (w : Wrote O) (next : List ℕ)
+    → (refuses c ≡ false → refuses (w .answer) ≡ false)
     → unlessRefused c next ≡ unlessRefused (afterwards c before w .answer) next
 unless-checked c before w next h = go (refuses c) refl
   where
-    go : (b : Bool) → refuses c ≡ b → cond b (refusalLine c) next ≡ unlessRefused (cond b (record { answer = c; output = before }) w .answer) next
+    go : (b : Bool) → refuses c ≡ b
+        → cond b (refusalLine c) next ≡ unlessRefused (cond b (record { answer = c; output = before }) w .answer) next
     go true p = rw p
     go false p = rw (h p)
 

@@ -3,8 +3,10 @@
 use mathlib.Core.Path.{_≡_, sym, ap, _∙_}
 use mathlib.Core.Bool.{Bool, false, cond}
 use mathlib.Core.List.{List, []}
-use Prim.Native.Nat.{ℕ}
-use lib.ListN.{length}
+use Prim.Native.Nat.{ℕ, _≤_}
+use native.Mathlib.Omega.{arith}
+use lib.ListN.{length, take, replicate, length-replicate}
+use lib.Seq.{length-take-le}
 use borrow.Author.Tests.{eq-eqb}
 use Rattle.answer.specs.Numbers.{refuses}
 use Rattle.answer.specs.Part.{Wrote}
@@ -19,6 +21,10 @@ use Rattle.clausal.specs.Renamings.{renaming}
 use Rattle.choose.specs.Chosen.{told, chosenUnder, chosenBy}
 use Rattle.program.specs.Printed.{allowance, unlessRefused, setPrinted, tablePrinted}
 use Rattle.program.proofs.Laws.Shows.{unless-checked}
+
+-- the start of a fresh buffer
+pub length-start : (k n : ℕ) → k ≤ n → length (take k (replicate {A = ℕ} n 0)) ≡ k
+length-start k n h = length-take-le k (replicate n 0) (omega (arith, length-replicate {A = ℕ} n 0))
 
 module _ (t : List ℕ) (v : ℕ) (before : List ℕ) (size : length before ≡ nodeCount t) where
   abbrev ns : List Node

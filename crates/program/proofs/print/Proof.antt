@@ -1,85 +1,123 @@
+-- `program::print` meets its contract: a refusal's line, or what the table comes to. Assumes nothing.
+use mathlib.Core.Path.{_≡_, refl, sym, ap, _∙_}
+use mathlib.Core.Bool.{false}
+use mathlib.Core.List.{List}
+use Prim.Native.Nat.{ℕ, _*_, _≤_}
+use native.Mathlib.Omega.{arith}
 use borrow.Author.Needs.{needs}
+use lib.ListN.{length, take, replicate, length-replicate}
+use lib.Seq.{length-take-le}
+use Rattle.answer.specs.Numbers.{toldOf, refuses}
+use Rattle.answer.specs.Part.{Wrote}
+use Rattle.answer.specs.declared.Told.{Told}
+use Rattle.formula.specs.Limits.{nodeBytes, mostTable}
+use Rattle.nodefile.specs.Files.{lineOf, fileTable, fileRead}
+use Rattle.nodefile.specs.Lines.{optionCount}
+use Rattle.program.specs.Printed.{tablePrinted}
+use Rattle.program.proofs.Laws.Files.{read-printed, read-options, read-few, read-size, read-table}
+use Rattle.program.proofs.Laws.Shows.{shows-as, line-refused, line-accepted}
 use Rattle.program.proofs.print.Statement.{statement}
 use Rattle.program.proofs.print.Tie as tie
-use Rattle.program.proofs.print.Reads as reads
-use Rattle.program.proofs.print.Lts as lts
-use Rattle.answer.proofs.is_refusal.Reads as is-refusal-reads
-use Rattle.answer.proofs.tell.Reads as tell-reads
-use Rattle.nodefile.proofs.read.Reads as read-reads
-use Rattle.program.proofs.print_table.Reads as print-table-reads
-use Rattle.program.proofs.refusal.put_refusal.Reads as put-refusal-reads
 
--- src/lib.rt:76:37
-slice-aggregate-read : tie.Need-slice-aggregate-read
-slice-aggregate-read c = search needs
+abbrev lent : List ℕ
+lent = replicate mostTable 0
 
--- src/lib.rt:76:9
-read-requires : tie.Need-read-requires
-read-requires c κs = search needs
+size : length lent ≡ mostTable
+size = length-replicate {A = ℕ} mostTable 0
 
--- src/lib.rt:77:8
-is-refusal-requires : tie.Need-is-refusal-requires
-is-refusal-requires c κs = search needs
+-- what reading gave
+module _ (c : tie.After-is-refusal) where
+  abbrev call : tie.After-read
+  call = c .before .before
 
--- src/lib.rt:78:9
-put-refusal-requires : tie.Need-put-refusal-requires
-put-refusal-requires c κs = search needs
+  abbrev start : tie.Start
+  start = call .before .before .before .before
 
--- src/lib.rt:78:9
-same-length : tie.Need-same-length
-same-length c = search needs
+  abbrev text : List ℕ
+  text = start .args .text .now
 
--- src/lib.rt:78:9
-returns : tie.Need-returns
-returns c = ?
+  abbrev out : List ℕ
+  out = call .read .last .1 .0
 
--- src/lib.rt:80:9
-tell-requires : tie.Need-tell-requires
-tell-requires c κs = search needs
+  abbrev printed : List ℕ
+  printed = tablePrinted (fileTable text) (optionCount (lineOf text 0))
 
--- src/lib.rt:81:30
-cast-bytes : tie.Need-cast-bytes
-cast-bytes c = search needs
+  answered : call .read .result ≡ fileRead text lent .answer
+  answered = ap (λ (w : Wrote (List ℕ)). w .answer) (call .read .ensures)
 
--- src/lib.rt:81:17
-mul-bytes : tie.Need-mul-bytes
-mul-bytes c = search needs
+refused : tie.Need-returns
+refused c =
+    let put = c .before .before in
+    let if1 = put .before .before in
+    let t = if1 .before in
+    shows-as
+    (line-refused _ _ (printed t) (read-printed (text t) lent size) _ (answered t) _ (t .is-refusal .ensures) (if1 .if1 .taken)) refl (put .put-refusal .ensures)
 
--- src/lib.rt:82:17
-array-share-prefix-table : tie.Need-array-share-prefix-table
-array-share-prefix-table c = ?
+-- the table that was read
+module _ (c : tie.After-tell) where
+  abbrev if1 : tie.Else1
+  if1 = c .before
 
--- src/lib.rt:82:17
-slice-aggregate-print-table : tie.Need-slice-aggregate-print-table
-slice-aggregate-print-table c = ?
+  abbrev test : tie.After-is-refusal
+  test = if1 .before
 
--- src/lib.rt:82:5
-print-table-requires : tie.Need-print-table-requires
-print-table-requires c κs = ?
+  ok : refuses (call test .read .result) ≡ false
+  ok = sym (test .is-refusal .ensures) ∙ if1 .if1 .left
 
--- src/lib.rt:71:1
-same-length-2 : tie.Need-same-length-2
-same-length-2 c = search needs
+  abbrev bytes : ℕ
+  bytes = nodeBytes * c .tell .result .second
 
--- src/lib.rt:71:1
-returns-2 : tie.Need-returns-2
-returns-2 c = ?
+  counted : bytes ≡ nodeBytes * toldOf (call test .read .result) .second
+  counted = ap (λ (x : Told). nodeBytes * x .second) (c .tell .ensures)
+
+  few : bytes ≤ mostTable
+  few = omega (arith, counted, read-few (text test) lent size (call test .read .result) (out test) (call test .read .ensures) ok)
+
+  whole : length (out test) ≡ mostTable
+  whole = read-size (text test) lent size (call test .read .result) (out test) (call test .read .ensures) ok
+
+  length-cut : length (take bytes (out test)) ≡ bytes
+  length-cut = length-take-le bytes (out test) (omega (arith, few, whole))
+
+fits : tie.Need-array-share-prefix-table
+fits c = omega (arith, few (c .before), whole (c .before))
+
+cut : tie.Need-slice-aggregate-print-table
+cut c = sym (length-cut (c .before .before))
+
+room : tie.Need-print-table-requires
+room c κs =
+    let n = c .before .before .before in
+    record { table = omega (arith, length-cut n, few n); buffer = start (test n) .pre }
+
+shown : tie.Need-returns-2
+shown c =
+    let print = c .before .before in
+    let n = print .before .before .before .before in
+    let t = test n in
+    let r = call t .read .result in
+    let table = read-table (text t) lent size r (out t) (call t .read .ensures) (ok n) (bytes n) (counted n) in
+    let options = ap (λ (x : Told). x .first) (n .tell .ensures)
+    ∙ read-options (text t) lent size r (out t) (call t .read .ensures) (ok n) in
+    shows-as
+    (line-accepted _ _ (printed t) (read-printed (text t) lent size) _ (answered t) _ (t .is-refusal .ensures) (if1 n .if1 .left)
+    ∙ (λ i. tablePrinted (sym table i) (sym options i))) refl (print .print-table .ensures)
 
 pub print-spec : {M : Type 1} → statement M
 print-spec =
     tie.close
     (tie.spec
-    slice-aggregate-read
-    read-requires
-    is-refusal-requires
-    put-refusal-requires
-    same-length
-    returns
-    tell-requires
-    cast-bytes
-    mul-bytes
-    array-share-prefix-table
-    slice-aggregate-print-table
-    print-table-requires
-    same-length-2
-    returns-2)
+    (λ c. search needs)
+    (λ c κs. search needs)
+    (λ c κs. search needs)
+    (λ c κs. search needs)
+    (λ c. search needs)
+    refused
+    (λ c κs. search needs)
+    (λ c. search needs)
+    (λ c. search needs)
+    fits
+    cut
+    room
+    (λ c. search needs)
+    shown)

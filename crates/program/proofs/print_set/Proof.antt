@@ -18,7 +18,7 @@ use Rattle.convert.specs.Converted.{converted}
 use Rattle.program.specs.Printed.{blank, clausesPrinted}
 use Rattle.program.proofs.Laws.Clauses.{new-blank}
 use Rattle.program.proofs.Laws.Conversions.{sized, taken, within, variables}
-use Rattle.program.proofs.Laws.Shows.{shows-refused, shows-accepted}
+use Rattle.program.proofs.Laws.Shows.{shows-as, line-refused, line-accepted}
 use Rattle.program.proofs.print_set.Statement.{statement}
 use Rattle.program.proofs.print_set.Tie as tie
 
@@ -59,7 +59,7 @@ refused c =
     let put = c .before .before in
     let if1 = put .before .before in
     let t = if1 .before in
-    shows-refused _ _ (printed t) refl _ (answered t) _ (t .is-refusal .ensures) (if1 .if1 .taken) (put .put-refusal .ensures)
+    shows-as (line-refused _ _ (printed t) refl _ (answered t) _ (t .is-refusal .ensures) (if1 .if1 .taken)) refl (put .put-refusal .ensures)
 
 -- the number of clause bytes
 module _ (c : tie.After-size) where
@@ -93,8 +93,9 @@ shown c =
     let t = test n in
     let x = ap (λ (x : Told). x .first) (n .before .tell .ensures)
     ∙ variables (table t) (v t) (set t) blank (ok n) (call t .convert .result) (out t) (made t) in
-    shows-accepted _ _ (printed t) refl _ (answered t) _ (t .is-refusal .ensures) (if1 n .if1 .left)
-    (λ i. clausesPrinted (sym (leading n) i) (sym x i)) (print .print-clauses .ensures)
+    shows-as
+    (line-accepted _ _ (printed t) refl _ (answered t) _ (t .is-refusal .ensures) (if1 n .if1 .left)
+    ∙ (λ i. clausesPrinted (sym (leading n) i) (sym x i))) refl (print .print-clauses .ensures)
 
 pub print-set-spec : {M : Type 1} → statement M
 print-set-spec =

@@ -1,64 +1,95 @@
+-- `program::print_table` meets its contract: a refusal's line, or what the chosen set comes to. Assumes nothing.
+use mathlib.Core.Path.{_≡_, refl, sym, ap, _∙_}
+use mathlib.Core.Bool.{false}
+use mathlib.Core.List.{List, []}
+use Prim.Native.Nat.{ℕ}
+use native.Mathlib.Omega.{arith}
 use borrow.Author.Needs.{needs}
+use lib.ListN.{length, take, replicate}
+use Rattle.answer.specs.Part.{Wrote}
+use Rattle.answer.proofs.Laws.Order.{tested}
+use Rattle.formula.specs.Limits.{mostNodes}
+use Rattle.formula.specs.Nodes.{nodeCount, nodesOf}
+use Rattle.clausal.specs.Choosing.{choose}
+use Rattle.clausal.specs.Renamings.{renaming}
+use Rattle.choose.specs.Chosen.{chosenBy}
+use Rattle.program.specs.Printed.{allowance, setPrinted}
+use Rattle.program.proofs.Laws.Shows.{shows-as, line-refused, line-accepted}
+use Rattle.program.proofs.Laws.Tables.{length-start, choose-printed, choose-accepted}
 use Rattle.program.proofs.print_table.Statement.{statement}
 use Rattle.program.proofs.print_table.Tie as tie
-use Rattle.program.proofs.print_table.Reads as reads
-use Rattle.program.proofs.print_table.Lts as lts
-use Rattle.answer.proofs.is_refusal.Reads as is-refusal-reads
-use Rattle.choose.proofs.pass.choose.Reads as choose-reads
-use Rattle.program.proofs.print_set.Reads as print-set-reads
-use Rattle.program.proofs.refusal.put_refusal.Reads as put-refusal-reads
 
--- src/lib.rt:62:15
-array-borrow-prefix-sets : tie.Need-array-borrow-prefix-sets
-array-borrow-prefix-sets c = search needs
+-- a byte a node
+module _ (c : tie.After-sets) where
+  abbrev start : tie.Start
+  start = c .before .before .before
 
--- src/lib.rt:62:9
-slice-aggregate-set : tie.Need-slice-aggregate-set
-slice-aggregate-set c = ?
+  abbrev table : List ℕ
+  table = start .args .table .now
 
--- src/lib.rt:63:9
-choose-requires : tie.Need-choose-requires
-choose-requires c κs = search needs
+  abbrev v : ℕ
+  v = start .args .options
 
--- src/lib.rt:64:8
-is-refusal-requires : tie.Need-is-refusal-requires
-is-refusal-requires c κs = search needs
+  abbrev lent : List ℕ
+  lent = take (nodeCount table) (replicate mostNodes 0)
 
--- src/lib.rt:65:9
-put-refusal-requires : tie.Need-put-refusal-requires
-put-refusal-requires c κs = search needs
+  size : length lent ≡ nodeCount table
+  size = length-start (nodeCount table) mostNodes (omega (arith, start .pre .table))
 
--- src/lib.rt:65:9
-same-length : tie.Need-same-length
-same-length c = search needs
+cut : tie.Need-slice-aggregate-set
+cut c = sym (size c)
 
--- src/lib.rt:65:9
-returns : tie.Need-returns
-returns c = ?
+-- what choosing gave
+module _ (c : tie.After-is-refusal) where
+  abbrev call : tie.After-choose
+  call = c .before .before .before
 
--- src/lib.rt:67:5
-print-set-requires : tie.Need-print-set-requires
-print-set-requires c κs = search needs
+  abbrev sets : tie.After-sets
+  sets = call .before .before
 
--- src/lib.rt:57:1
-same-length-2 : tie.Need-same-length-2
-same-length-2 c = search needs
+  abbrev out : List ℕ
+  out = call .choose .last .1 .1 .1 .0
 
--- src/lib.rt:57:1
-returns-2 : tie.Need-returns-2
-returns-2 c = ?
+  abbrev printed : List ℕ
+  printed = setPrinted (table sets) (v sets) (choose allowance (renaming (v sets) []) (nodesOf (table sets)) .chosen)
+
+  answered : call .choose .result ≡ chosenBy (table sets) (v sets) allowance (lent sets) .answer
+  answered = ap (λ (w : Wrote (List ℕ)). w .answer) (call .choose .ensures)
+
+refused : tie.Need-returns
+refused c =
+    let put = c .before .before in
+    let if1 = put .before .before .before in
+    let t = if1 .before in
+    let s = sets t in
+    shows-as
+    (line-refused _ _ (printed t) (choose-printed (table s) (v s) (lent s) (size s)) _ (answered t) _ (t .is-refusal .ensures)
+    (if1 .if1 .taken)) refl (put .put-refusal .ensures)
+
+shown : tie.Need-returns-2
+shown c =
+    let print = c .before .before .before in
+    let if1 = print .before .before .before in
+    let t = if1 .before in
+    let s = sets t in
+    let ok = tested _ _ _ (answered t) (t .is-refusal .ensures) false (if1 .if1 .left) in
+    let same = ap (λ (w : Wrote (List ℕ)). w .output)
+    (call t .choose .ensures ∙ choose-accepted (table s) (v s) (lent s) (size s) ok) in
+    shows-as
+    (line-accepted _ _ (printed t) (choose-printed (table s) (v s) (lent s) (size s)) _ (answered t) _ (t .is-refusal .ensures)
+    (if1 .if1 .left) ∙ ap (setPrinted (table s) (v s)) (sym same)) refl (print .print-set .ensures)
 
 pub print-table-spec : {M : Type 1} → statement M
 print-table-spec =
     tie.close
     (tie.spec
-    array-borrow-prefix-sets
-    slice-aggregate-set
-    choose-requires
-    is-refusal-requires
-    put-refusal-requires
-    same-length
-    returns
-    print-set-requires
-    same-length-2
-    returns-2)
+    (λ c. search needs)
+    cut
+    (λ c κs. search needs)
+    (λ c κs. search needs)
+    (λ c κs. search needs)
+    (λ c. search needs)
+    refused
+    (λ c κs. search needs)
+    (λ c. search needs)
+    shown)

@@ -1,5 +1,5 @@
 -- `program::refusal::put_refusal` meets its contract: the name and two fields, one behind the other. Assumes nothing.
-use mathlib.Core.Path.{_≡_, sym, ap, _∙_, subst⁻¹}
+use mathlib.Core.Path.{_≡_, refl, sym, ap}
 use mathlib.Core.List.{List, _++_}
 use Prim.Native.Nat.{ℕ, _+_, _≤_}
 use native.Mathlib.Omega.{arith}
@@ -9,8 +9,8 @@ use Rattle.laws.specs.Numbers.{cap}
 use Rattle.laws.proofs.Stored.{room-left, room-right, stored-as, stored-both}
 use Rattle.answer.specs.Part.{mostShown}
 use Rattle.answer.specs.declared.Told.{Told}
-use Rattle.program.specs.Printed.{refusedName, field, Shows}
-use Rattle.program.proofs.Laws.Shows.{shows-stored, field-short}
+use Rattle.program.specs.Printed.{refusedName, field}
+use Rattle.program.proofs.Laws.Shows.{shows-stored, shows-as, field-short}
 use Rattle.program.proofs.refusal.put_refusal.Statement.{statement}
 use Rattle.program.proofs.refusal.put_refusal.Tie as tie
 
@@ -33,7 +33,9 @@ module _ (p : tie.After-put-bytes) where
 
   room : 0 + length (refusedName ++ (first ++ second)) ≤ length (start .args .out .now)
   room =
-      omega (arith, start .pre, length-append first second, field-short (told .number) 9 (omega (arith, tell .tell .ok .1 .1 .0)), field-short (cap mostShown (told .place)) 10 (omega arith))
+      let number = field-short (told .number) 9 (omega (arith, tell .tell .ok .1 .1 .0)) in
+      let place = field-short (cap mostShown (told .place)) 10 (omega arith) in
+      omega (arith, start .pre, length-append first second, number, place)
 
   rest : p .put-bytes .result + length (first ++ second) ≤ length (p .put-bytes .last .0)
   rest = room-right refusedName (first ++ second) (start .args .out .now) 0 room (p .put-bytes .ensures)
@@ -58,9 +60,9 @@ returns c =
     let p = q .before .before .before .before in
     let both = stored-both (first p) (second p) (p .put-bytes .last .0) (p .put-bytes .result) (rest p) (q .put-field .ensures)
     (stored-as (ap (λ (n : ℕ). field n 10) (sym (shown .shown .ensures))) (r .put-field2 .ensures)) in
-    subst⁻¹ (λ (x : Told). Shows (refusedName ++ (field (x .number) 9 ++ field (cap mostShown (x .place)) 10)) (start p .args .out .now) (r .put-field2 .result) (r .put-field2 .last .0))
-    (sym (tell p .tell .ensures))
-    (shows-stored (omega (arith, room p)) (stored-both refusedName (first p ++ second p) (start p .args .out .now) 0 (room p) (p .put-bytes .ensures) both))
+    let told = ap (λ (x : Told). refusedName ++ (field (x .number) 9 ++ field (cap mostShown (x .place)) 10)) (tell p .tell .ensures) in
+    let all = stored-both refusedName (first p ++ second p) (start p .args .out .now) 0 (room p) (p .put-bytes .ensures) both in
+    shows-as (sym told) refl (shows-stored (omega (arith, room p)) all)
 
 pub put-refusal-spec : {M : Type 1} → statement M
 put-refusal-spec =
