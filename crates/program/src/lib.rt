@@ -2,7 +2,9 @@
 mod refusal;
 
 ghost use mathlib.Core.Path.{_≡_};
+ghost use Prim.Native.Nat.{_*_};
 ghost use lib.ListN.{length};
+ghost use Rattle.formula.specs.Limits.{nodeBytes};
 ghost use Rattle.program.specs.Printed.{bufferBytes, clausesPrinted, setPrinted, tablePrinted, printed, Shows};
 ghost use Rattle.program.specs.Inner.Sizes.{sizeTold, Room};
 use answer::is_refusal;
@@ -67,6 +69,13 @@ fn print_table(table: &[u8], options: u32, out: &mut [u8]) -> usize
     print_set(table, options, set, out)
 }
 
+// How many bytes the nodes of a table take.
+fn table_size(nodes: u32) -> usize
+    ensures { λ r. ⌜ r ≡ nodeBytes * nodes ⌝ }
+{
+    NODE_BYTES * nodes as usize
+}
+
 // Prints what a node file comes to, at the start of a buffer, and returns how many bytes that is.
 pub fn print(text: &[u8], out: &mut [u8]) -> usize
     requires { ⌜ length (now out) ≡ bufferBytes ⌝ }
@@ -78,6 +87,6 @@ pub fn print(text: &[u8], out: &mut [u8]) -> usize
         return put_refusal(read, out);
     }
     let told = tell(read);
-    let bytes = NODE_BYTES * told.second as usize;
+    let bytes = table_size(told.second);
     print_table(&table[..bytes], told.first, out)
 }

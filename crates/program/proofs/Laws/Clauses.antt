@@ -3,11 +3,11 @@
 use mathlib.Core.Path.{_≡_, refl, sym, ap, _∙_}
 use mathlib.Core.Bool.{Bool, true, false, cond}
 use mathlib.Core.List.{List}
-use Prim.Native.Nat.{ℕ, _≤_}
+use Prim.Native.Nat.{ℕ}
 use native.Mathlib.Omega.{arith}
 use lib.Dec.{ltb}
 use lib.ListN.{length, replicate, length-replicate}
-use Rattle.laws.specs.Lists.{Stored, splice}
+use Rattle.laws.specs.Lists.{splice}
 use Rattle.answer.specs.Numbers.{refuses}
 use Rattle.answer.specs.Part.{Wrote, stored}
 use Rattle.answer.specs.declared.Answer.{Answer}

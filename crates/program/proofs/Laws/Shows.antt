@@ -2,8 +2,8 @@
 -- Assumes nothing.
 use mathlib.Core.Path.{_≡_, refl, sym, ap, _∙_, subst⁻¹}
 use mathlib.Core.Bool.{Bool, true, false, cond}
-use mathlib.Core.List.{List, [], _∷_, _++_}
-use Prim.Native.Nat.{ℕ, _+_, _≤_, _<_}
+use mathlib.Core.List.{List, [], _∷_}
+use Prim.Native.Nat.{ℕ, _≤_, _<_}
 use native.Mathlib.Omega.{arith}
 use lib.ListN.{length, length-append}
 use Rattle.laws.specs.Lists.{Stored}
@@ -24,7 +24,8 @@ shows-stored {xs} {before} room s = record {
 }
 
 -- the same bytes in the same buffer
-pub shows-as : {xs ys before was after : List ℕ} {count : ℕ} → xs ≡ ys → before ≡ was → Shows ys was count after → Shows xs before count after
+pub shows-as : {xs ys before was after : List ℕ} {count : ℕ} → xs ≡ ys → before ≡ was
+    → Shows ys was count after → Shows xs before count after
 shows-as {ys = ys} {before} {after = after} {count} e f s =
     subst⁻¹ (λ (l : List ℕ). Shows l before count after) e (subst⁻¹ (λ (l : List ℕ). Shows ys l count after) f s)
 

@@ -51,24 +51,25 @@ refused c =
     let if1 = put .before .before in
     let t = if1 .before in
     shows-as
-    (line-refused _ _ (printed t) (read-printed (text t) lent size) _ (answered t) _ (t .is-refusal .ensures) (if1 .if1 .taken)) refl (put .put-refusal .ensures)
+    (line-refused _ _ (printed t) (read-printed (text t) lent size) _ (answered t) _ (t .is-refusal .ensures) (if1 .if1 .taken)) refl
+    (put .put-refusal .ensures)
 
 -- the table that was read
-module _ (c : tie.After-tell) where
-  abbrev if1 : tie.Else1
-  if1 = c .before
+module _ (c : tie.After-table-size) where
+  abbrev tell : tie.After-tell
+  tell = c .before
 
   abbrev test : tie.After-is-refusal
-  test = if1 .before
+  test = tell .before .before
 
   ok : refuses (call test .read .result) ≡ false
-  ok = sym (test .is-refusal .ensures) ∙ if1 .if1 .left
+  ok = sym (test .is-refusal .ensures) ∙ tell .before .if1 .left
 
   abbrev bytes : ℕ
-  bytes = nodeBytes * c .tell .result .second
+  bytes = c .table-size .result
 
   counted : bytes ≡ nodeBytes * toldOf (call test .read .result) .second
-  counted = ap (λ (x : Told). nodeBytes * x .second) (c .tell .ensures)
+  counted = c .table-size .ensures ∙ ap (λ (x : Told). nodeBytes * x .second) (tell .tell .ensures)
 
   few : bytes ≤ mostTable
   few = omega (arith, counted, read-few (text test) lent size (call test .read .result) (out test) (call test .read .ensures) ok)
@@ -80,27 +81,28 @@ module _ (c : tie.After-tell) where
   length-cut = length-take-le bytes (out test) (omega (arith, few, whole))
 
 fits : tie.Need-array-share-prefix-table
-fits c = omega (arith, few (c .before), whole (c .before))
+fits c = omega (arith, few c, whole c)
 
 cut : tie.Need-slice-aggregate-print-table
-cut c = sym (length-cut (c .before .before))
+cut c = sym (length-cut (c .before))
 
 room : tie.Need-print-table-requires
 room c κs =
-    let n = c .before .before .before in
+    let n = c .before .before in
     record { table = omega (arith, length-cut n, few n); buffer = start (test n) .pre }
 
 shown : tie.Need-returns-2
 shown c =
     let print = c .before .before in
-    let n = print .before .before .before .before in
+    let n = print .before .before .before in
     let t = test n in
     let r = call t .read .result in
     let table = read-table (text t) lent size r (out t) (call t .read .ensures) (ok n) (bytes n) (counted n) in
-    let options = ap (λ (x : Told). x .first) (n .tell .ensures)
+    let options = ap (λ (x : Told). x .first) (tell n .tell .ensures)
     ∙ read-options (text t) lent size r (out t) (call t .read .ensures) (ok n) in
+    let left = tell n .before .if1 .left in
     shows-as
-    (line-accepted _ _ (printed t) (read-printed (text t) lent size) _ (answered t) _ (t .is-refusal .ensures) (if1 n .if1 .left)
+    (line-accepted _ _ (printed t) (read-printed (text t) lent size) _ (answered t) _ (t .is-refusal .ensures) left
     ∙ (λ i. tablePrinted (sym table i) (sym options i))) refl (print .print-table .ensures)
 
 pub print-spec : {M : Type 1} → statement M
@@ -114,8 +116,7 @@ print-spec =
     (λ c. search needs)
     refused
     (λ c κs. search needs)
-    (λ c. search needs)
-    (λ c. search needs)
+    (λ c κs. search needs)
     fits
     cut
     room

@@ -59,7 +59,8 @@ refused c =
     let put = c .before .before in
     let if1 = put .before .before in
     let t = if1 .before in
-    shows-as (line-refused _ _ (printed t) refl _ (answered t) _ (t .is-refusal .ensures) (if1 .if1 .taken)) refl (put .put-refusal .ensures)
+    shows-as (line-refused _ _ (printed t) refl _ (answered t) _ (t .is-refusal .ensures) (if1 .if1 .taken)) refl
+    (put .put-refusal .ensures)
 
 -- the number of clause bytes
 module _ (c : tie.After-size) where

@@ -1,5 +1,5 @@
 -- `program::size` meets its contract: the room for what measuring tells. Assumes nothing.
-use mathlib.Core.Path.{_≡_, ap, _∙_}
+use mathlib.Core.Path.{ap, _∙_}
 use borrow.Author.Needs.{needs}
 use Rattle.answer.specs.Numbers.{toldOf}
 use Rattle.answer.specs.declared.Answer.{Answer}
