@@ -2,8 +2,9 @@
 -- Assumes nothing: these are definitions.
 use mathlib.Core.List.{List}
 use mathlib.Core.Path.{_≡_}
-use Prim.Native.Nat.{ℕ, _≤_}
+use Prim.Native.Nat.{ℕ, _+_, _≤_}
 use lib.ListN.{length}
+use Rattle.laws.specs.Lists.{Stored}
 use Rattle.answer.specs.Numbers.{toldOf}
 use Rattle.formula.specs.Limits.{mostTable}
 use Rattle.clausebytes.specs.Words.{roomOf}
@@ -18,3 +19,12 @@ sizeTold t v s = roomOf (toldOf (measured t v s) .first) (toldOf (measured t v s
 pub record Room (t out : List ℕ) : Type 0 where
   pub table : length t ≤ mostTable
   pub buffer : length out ≡ bufferBytes
+
+-- the most bytes of a field: ten digits of a 32-bit number, and the byte behind them
+abbrev pub mostField : ℕ
+mostField = 11
+
+-- a field was stored, and is not longer
+pub record PutShort (xs before : List ℕ) (at next : ℕ) (after : List ℕ) : Type 0 where
+  pub stored : Stored xs before at next after
+  pub short : next ≤ at + mostField
