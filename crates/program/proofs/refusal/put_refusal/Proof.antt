@@ -10,6 +10,7 @@ use Rattle.laws.proofs.Stored.{room-right, stored-both}
 use Rattle.answer.specs.Part.{mostShown}
 use Rattle.answer.specs.declared.Told.{Told}
 use Rattle.program.specs.Printed.{refusedName, field}
+use Rattle.program.specs.Inner.Sizes.{PutShort}
 use Rattle.program.proofs.Laws.Shows.{shows-stored, shows-as}
 use Rattle.program.proofs.refusal.put_refusal.Statement.{statement}
 use Rattle.program.proofs.refusal.put_refusal.Tie as tie
@@ -27,8 +28,8 @@ returns c =
     let second = field (shown .shown .result) 10 in
     let number = ap (λ (x : Told). x .number) (sym (tell .tell .ensures)) in
     let place = ap (λ (x : Told). cap mostShown (x .place)) (sym (tell .tell .ensures)) ∙ sym (shown .shown .ensures) in
-    let head = q .put .ensures in
-    let tail = r .put2 .ensures in
+    let head : PutShort first (p .put-bytes .last .0) (p .put-bytes .result) (q .put .result) (q .put .last .0) = q .put .ensures in
+    let tail : PutShort second (q .put .last .0) (q .put .result) (r .put2 .result) (r .put2 .last .0) = r .put2 .ensures in
     let room : 0 + length (refusedName ++ (first ++ second)) ≤ length out =
     omega (arith, start .pre, length-append first second, head .stored .place, head .short, tail .stored .place, tail .short) in
     let rest = room-right refusedName (first ++ second) out 0 room (p .put-bytes .ensures) in
