@@ -8,7 +8,6 @@ use Rattle.answer.specs.declared.Answer.the-variants.{Accepted, TableLen
 use Rattle.answer.specs.declared.Answer.the-variants.{ClauseBytes, Line, AnswerPart}
 use Rattle.answer.specs.declared.Told.{Told}
 use mathlib.Core.List.{List, _++_}
-use mathlib.Core.Path.{_≡_}
 use lib.ListN.{length}
 use Rattle.laws.specs.Lists.{splice}
 use Rattle.laws.specs.Numbers.{cap, little}
@@ -46,11 +45,6 @@ mostShown = 4_294_967_295
 -- R11.3: number, place and the two values
 abbrev pub bytesOf : Told → List ℕ
 bytesOf t = little 4 (t .number) ++ (little 4 (cap mostShown (t .place)) ++ (little 4 (t .first) ++ little 4 (t .second)))
-
--- an answer was given: its number is returned, and the part has its bytes
-pub record Given (a : Answer) (result : ℕ) (part : List ℕ) : Type 0 where
-  pub number : result ≡ toldOf a .number
-  pub bytes : part ≡ bytesOf (toldOf a)
 
 -- what a call answers, and what it leaves in the lent outputs; O is the type of all of them together
 pub record Wrote (O : Type 0) : Type 0 where

@@ -1,2 +1,3 @@
 -- What an answer stands for.
 pub mod Answers
+pub mod Inner

@@ -21,8 +21,8 @@ use Rattle.clausebytes.specs.Words.{mostVariables, wrongBytes, clausesOf}
 use Rattle.clausal.specs.Calls.{measured, chosenBy, converted, convertedAfter}
 use Rattle.choose.proofs.Allowances.{compared}
 use Rattle.convert.proofs.Laws.Checked.{few-options}
-use Rattle.dimacs.specs.Calls.{writeCall, readCall, textLength}
-use Rattle.dimacs.specs.Texts.{writtenText}
+use Rattle.dimacs.specs.Texts.{writeCall, writtenText}
+use Rattle.dimacs.specs.Inner.Calls.{readCall, textLength}
 use Rattle.dimacs.proofs.RoundTrip.{reads-what-writes}
 use Rattle.claims.specs.Calls.{first, second, Guard, nodes, names, guards, Check, checkSeen, checkGuard, Measure, measureSeen}
 use Rattle.claims.specs.Calls.{measureGuard, Choose, chooseSeen, chooseGuard, allowance, Convert, convertSeen, convertGuard}

@@ -23,8 +23,8 @@ use Rattle.clausal.specs.Output.{outputOf}
 use Rattle.clausebytes.specs.Words.{wrongBytes, clausesOf}
 use Rattle.clausal.specs.Calls.{measured, told, chosenUnder, chosenBy, ceilings, convertedUnder, converted, takenChecked, convertedAfter}
 use Rattle.convert.proofs.Laws.Checked.{few-options, taken-right}
-use Rattle.dimacs.specs.Calls.{readCall, writeCall}
-use Rattle.dimacs.specs.Texts.{Text, writtenText}
+use Rattle.dimacs.specs.Texts.{writeCall, Text, writtenText}
+use Rattle.dimacs.specs.Inner.Calls.{readCall}
 use Rattle.dimacs.proofs.Reading as dimacs
 use Rattle.dimacs.proofs.Reading.{acceptsText, accepts-exactly, reads, placeOf, place-longest}
 use Rattle.claims.specs.Calls.{Guard, nodes, names, over}

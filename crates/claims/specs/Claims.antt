@@ -21,8 +21,8 @@ use Rattle.clausal.specs.Meanings.{Named, satisfies, Extends}
 use Rattle.clausal.specs.Output.{outputOf}
 use Rattle.clausebytes.specs.Words.{wrongBytes, clausesOf}
 use Rattle.clausal.specs.Calls.{measured, chosenBy, converted, convertedAfter}
-use Rattle.dimacs.specs.Calls.{writeCall, readCall, textLength}
-use Rattle.dimacs.specs.Texts.{Text, writtenText}
+use Rattle.dimacs.specs.Texts.{writeCall, Text, writtenText}
+use Rattle.dimacs.specs.Inner.Calls.{readCall, textLength}
 use Rattle.claims.specs.Calls.{Seen, first, second, Guard, nodes, names, Check, checkSeen, checkGuard, Measure, measureSeen}
 use Rattle.claims.specs.Calls.{measureGuard, Choose, chooseSeen, chooseGuard, allowance, Convert, convertSeen, convertGuard}
 use Rattle.claims.specs.Calls.{ConvertAfter, afterSeen, afterGuard, guards, guardIn, Write, writeSeen, clauseBytes, declared, Read}

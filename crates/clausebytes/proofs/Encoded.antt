@@ -13,7 +13,8 @@ use Rattle.laws.specs.Numbers.{littleAt, little}
 use Rattle.laws.proofs.Bytes.{littleAt-little, little-littleAt}
 use Rattle.clausal.specs.Clauses.{Literal, Clause, wordOf, literalBytes, clauseBytes, clausesBytes}
 use Rattle.clausal.specs.Totals.{literalsIn}
-use Rattle.clausebytes.specs.Words.{wordsOf, literalOf, clausesOf, roomOf, mostVariables, Within, Right, wrongBytes}
+use Rattle.clausebytes.specs.Words.{wordsOf, literalOf, clausesOf, mostVariables, Within, Right, wrongBytes}
+use Rattle.clausebytes.specs.Inner.Checks.{roomOf}
 use Rattle.clausebytes.specs.Words as right
 use Rattle.clausebytes.proofs.Laws.Stand.{Stand, no-word, a-zero, a-literal, stand, clauses-stand, closed-stand, Small, no-small}
 use Rattle.clausebytes.proofs.Laws.Stand.{a-small, within-stand, within-all}

@@ -2,7 +2,7 @@
 -- Assumes nothing: these are definitions.
 use mathlib.Core.Bool.{cond, Bool, true, false, not, _||_}
 use mathlib.Core.List.{List, [], _∷_}
-use Prim.Native.Nat.{ℕ, _+_, _*_, _-_, _^_, _%_, _≤_, _<_}
+use Prim.Native.Nat.{ℕ, _-_, _^_, _%_, _≤_, _<_}
 use lib.Dec.{eqb, ltb}
 use Rattle.laws.specs.Numbers.{littleAt}
 use Rattle.clausal.specs.Clauses.{Literal, Clause}
@@ -31,10 +31,6 @@ clausesIn (w ∷ ws) = cond (eqb w 0) ([] ∷ clausesIn ws) (ahead (literalOf w)
 
 abbrev pub clausesOf : List ℕ → List Clause
 clausesOf bytes = clausesIn (wordsOf bytes)
-
--- R6.3
-abbrev pub roomOf : ℕ → ℕ → ℕ
-roomOf clauses literals = 4 * (literals + clauses)
 
 -- R9.8
 abbrev pub mostVariables : ℕ

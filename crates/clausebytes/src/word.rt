@@ -4,7 +4,8 @@ ghost use Prim.Native.Nat.{_+_, _-_, _%_, _^_, _<_, _≤_};
 ghost use lib.ListN.{length};
 ghost use Rattle.laws.specs.Numbers.{littleAt};
 ghost use Rattle.clausal.specs.Clauses.{wordOf};
-ghost use Rattle.clausebytes.specs.Words.{literalOf, roomOf};
+ghost use Rattle.clausebytes.specs.Words.{literalOf};
+ghost use Rattle.clausebytes.specs.Inner.Checks.{roomOf};
 
 // The first number that has the sign bit.
 pub const SIGN: u32 = 2_147_483_648;

@@ -9,9 +9,9 @@ use Rattle.text.specs.Inner.Heads.{headOf}
 use Rattle.answer.specs.declared.Answer.{Answer}
 use Rattle.answer.specs.declared.Answer.the-variants.{Accepted, Room, Text, ClauseBytes}
 use Rattle.clausebytes.specs.Words.{wordsOf, clausesIn, closedFrom, allWithin}
-use Rattle.dimacs.specs.Texts.{cnf}
+use Rattle.dimacs.specs.Texts.{cnf, writeCall}
 use Rattle.dimacs.specs.Inner.States.{stepOf}
-use Rattle.dimacs.specs.Calls.{writeCall, readCall}
+use Rattle.dimacs.specs.Inner.Calls.{readCall}
 use Rattle.dimacs.specs.declared.phase.Phase.the-variants.{Between, Dead}
 use Rattle.dimacs.specs.declared.state.State.{State}
 use Rattle.dimacs.proofs.Laws.ReadCall.{endAt}

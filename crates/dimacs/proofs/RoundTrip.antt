@@ -12,8 +12,8 @@ use Rattle.clausal.specs.Clauses.{Clause, clausesBytes}
 use Rattle.clausebytes.specs.Words.{clausesOf, Right, wrongBytes}
 use Rattle.clausebytes.proofs.Encoded.{Bytes, not-wrong-of-right, clauses-of-bytes, right-of-bytes, bytes-back}
 use Rattle.dimacs.specs.Texts.{literalText, clauseLine, linesOf, writtenText, cnf, Body, blank, newline, end, white, zero, literal}
-use Rattle.dimacs.specs.Texts.{Follows, Text}
-use Rattle.dimacs.specs.Calls.{writeCall, readCall}
+use Rattle.dimacs.specs.Texts.{Follows, Text, writeCall}
+use Rattle.dimacs.specs.Inner.Calls.{readCall}
 use Rattle.dimacs.proofs.Reading.{reads, right-text}
 
 -- the lines of clauses stand for them

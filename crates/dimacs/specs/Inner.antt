@@ -3,3 +3,4 @@
 pub mod Words
 pub mod Table
 pub mod States
+pub mod Calls

@@ -1,15 +1,17 @@
--- R9.1 to R9.3: the text of a list of clauses.
--- R9.5 to R9.17: the texts that are accepted, by productions, and the clauses that they stand for.
+-- R9.1 to R9.3, R10.18: the text of a list of clauses, and what the writing call gives. R9.5 to R9.17: the texts that are accepted, by
+-- productions, and the clauses that they stand for.
 -- Assumes nothing: these are definitions.
 use mathlib.Core.Bool.{cond, Bool, true, false}
 use mathlib.Core.List.{List, [], _∷_, _++_}
 use Prim.Native.Nat.{ℕ}
 use lib.ListN.{length}
+use Rattle.answer.specs.Answers.{Wrote, stored}
+use Rattle.answer.specs.declared.Answer.the-variants as answer
 use Rattle.text.specs.Texts.{decimal, Blank, Headed}
 use Rattle.clausal.specs.Clauses.{Literal, Clause}
 use mathlib.Core.Path.{_≡_}
 use Rattle.text.specs.declared.head.Form.{Form}
-use Rattle.clausebytes.specs.Words.{mostVariables, mostClauses, Right}
+use Rattle.clausebytes.specs.Words.{clausesOf, mostVariables, mostClauses, Right, wrongBytes}
 
 -- R9.1: `p cnf `, the variables, a space, the clauses, a newline
 abbrev pub headerLine : ℕ → ℕ → List ℕ
@@ -63,3 +65,10 @@ Text v cs t = Headed cnf (Follows v cs) t
 
 abbrev pub Accepted : List ℕ → Type 0
 Accepted t = (v : ℕ) × (cs : List Clause) × Text v cs t
+
+-- R10.18, R10.19 and R11.13: clause bytes, declared variables, and the buffer for the text: refusal 9, then 7
+abbrev pub writeCall : List ℕ → ℕ → List ℕ → Wrote (List ℕ)
+writeCall bytes v buffer =
+    cond (wrongBytes bytes v)
+    (record { answer = answer.ClauseBytes; output = buffer })
+    (stored (answer.Accepted v (length (clausesOf bytes))) (writtenText v (clausesOf bytes)) buffer)

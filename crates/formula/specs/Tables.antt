@@ -107,7 +107,4 @@ fieldRight v i held.Symbol x = cond (eqb x 0) false (leb x v)
 abbrev pub faultOf : ℕ → ℕ → Node → ℕ
 faultOf v i n =
     cond (known (n .kind))
-    (cond (fieldRight v i (useOfA (n .kind)) (n .a))
-    (cond (fieldRight v i (useOfB (n .kind)) (n .b)) 0 3)
-    3)
-    3
+    (cond (fieldRight v i (useOfA (n .kind)) (n .a)) (cond (fieldRight v i (useOfB (n .kind)) (n .b)) 0 3) 3) 3

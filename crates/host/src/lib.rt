@@ -5,7 +5,8 @@ ghost use lib.ListN.{getD};
 ghost use Rattle.answer.specs.Answers.{only, leaves};
 ghost use Rattle.formula.specs.Checks.{checked};
 ghost use Rattle.clausal.specs.Calls.{measured, chosenBy, converted, convertedAfter};
-ghost use Rattle.dimacs.specs.Calls.{writeCall, readCall};
+ghost use Rattle.dimacs.specs.Texts.{writeCall};
+ghost use Rattle.dimacs.specs.Inner.Calls.{readCall};
 use answer::give;
 use answer::is_part_wrong;
 

@@ -10,7 +10,8 @@ use Rattle.laws.specs.Lists.{firstFrom}
 use Rattle.answer.specs.declared.Answer.{Answer}
 use Rattle.answer.specs.declared.Answer.the-variants.{Accepted, Room, Line}
 use Rattle.text.specs.Texts.{digits, valueFrom, same, parted}
-use Rattle.nodefile.specs.Files.{areNumbers, lineRight, recordsTo, fileChecked, fileRead}
+use Rattle.nodefile.specs.Files.{areNumbers, lineRight, recordsTo, fileChecked}
+use Rattle.nodefile.specs.Inner.Reads.{fileRead}
 
 -- `options` and a tab
 abbrev word : List ℕ

@@ -1,5 +1,4 @@
--- R13.1 to R13.5: which lines of a node file are right, and what they say.
--- R13.5 to R13.9: what reading a whole node file gives.
+-- R13.1 to R13.9: which lines of a node file are right, what they say, and what a whole file says.
 -- Assumes nothing: these are definitions.
 use mathlib.Core.Bool.{Bool, true, false, _&&_, cond}
 use mathlib.Core.List.{List, [], _∷_, _++_}
@@ -9,7 +8,6 @@ use lib.ListN.{getD, length}
 use Rattle.text.specs.Texts.{valueOf, same, isNumber, parted}
 use Rattle.formula.specs.Tables.{nodeRecord, mostNodes}
 use Rattle.laws.specs.Lists.{first}
-use Rattle.answer.specs.Answers.{Wrote, afterwards, stored}
 use Rattle.answer.specs.declared.Answer.{Answer}
 use Rattle.answer.specs.declared.Answer.the-variants.{Accepted, Line}
 
@@ -109,7 +107,3 @@ abbrev pub fileChecked : List ℕ → Answer
 fileChecked text =
     cond (ltb mostBytes (length text)) (Line 0)
     (cond (fileRight text) (Accepted (optionCount (lineOf text 0)) (fileNodes text)) (Line (firstWrong text + 1)))
-
--- R13.7 and R10.19: reading a node file into a lent buffer
-abbrev pub fileRead : List ℕ → List ℕ → Wrote (List ℕ)
-fileRead text buffer = afterwards (fileChecked text) buffer (stored (fileChecked text) (fileTable text) buffer)

@@ -2,7 +2,7 @@
 mod line;
 
 ghost use mathlib.Core.Path.{_≡_};
-ghost use Rattle.nodefile.specs.Files.{fileRead};
+ghost use Rattle.nodefile.specs.Inner.Reads.{fileRead};
 use answer::Answer;
 use formula::node::MOST_TABLE;
 use formula::node::NODE_BYTES;

@@ -16,8 +16,7 @@ use Rattle.clausal.specs.Clauses.{clausesBytes, renaming, variablesOf}
 use Rattle.clausal.specs.Output.{outputOf}
 use Rattle.clausebytes.specs.Words.{clausesOf}
 use Rattle.clausal.specs.Calls.{converted}
-use Rattle.dimacs.specs.Calls.{writeCall}
-use Rattle.dimacs.specs.Texts.{writtenText}
+use Rattle.dimacs.specs.Texts.{writeCall, writtenText}
 use Rattle.nodefile.specs.Files.{fileChecked, fileTable, lineOf, optionCount}
 
 -- R13.12

@@ -1,6 +1,6 @@
 -- What a call leaves: what is looked at first, how the part is written, and that a contract of this shape settles everything.
 -- Assumes nothing.
-use mathlib.Core.Path.{_≡_, refl, sym, ap, _∙_}
+use mathlib.Core.Path.{_≡_, sym, ap, _∙_}
 use mathlib.Core.Bool.{Bool, true, false, not}
 use mathlib.Core.List.{List, _++_, append-assoc}
 use Prim.Native.Nat.{ℕ, _<_, _≤_}
@@ -10,7 +10,8 @@ use lib.ListN.{length, length-append}
 use borrow.Author.Tests.{not-true, not-false, eqb-true, lt-ltb, le-ltb}
 use Rattle.laws.specs.Lists.{splice}
 use Rattle.laws.proofs.Splices.{splice-splice, splice-all}
-use Rattle.answer.specs.Answers.{toldOf, bytesOf, Given, Wrote, stored, Left, leaves}
+use Rattle.answer.specs.Answers.{toldOf, bytesOf, Wrote, stored, Left, leaves}
+use Rattle.answer.specs.Inner.Given.{Given}
 use Rattle.answer.specs.declared.Answer.{Answer}
 use Rattle.answer.specs.declared.Answer.the-variants.{Room}
 

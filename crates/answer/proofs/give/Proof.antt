@@ -1,5 +1,5 @@
 -- `answer::give` meets its contract: the four numbers stand one behind the other. Assumes nothing.
-use mathlib.Core.Path.{_≡_, refl, sym, ap, _∙_}
+use mathlib.Core.Path.{refl, ap, _∙_}
 use borrow.Author.Needs.{needs}
 use Rattle.laws.specs.Numbers.{little}
 use Rattle.answer.specs.declared.Told.{Told}

@@ -8,7 +8,7 @@ use borrow.Author.Needs.{needs}
 use borrow.Author.Tests.{not-true, not-false}
 use lib.ListN.{length}
 use Rattle.text.specs.Inner.Heads.{headOf}
-use Rattle.clausebytes.specs.Words.{roomOf}
+use Rattle.clausebytes.specs.Inner.Checks.{roomOf}
 use Rattle.dimacs.specs.Texts.{cnf}
 use Rattle.dimacs.specs.Inner.States.{accepts}
 use Rattle.dimacs.specs.declared.state.State.{State}

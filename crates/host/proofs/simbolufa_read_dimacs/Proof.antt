@@ -4,7 +4,7 @@ use Prim.Native.Nat.{ℕ}
 use borrow.Author.Needs.{needs}
 use Rattle.answer.specs.Answers.{Wrote}
 use Rattle.answer.proofs.Laws.Part.{leaves-wrong, leaves-right, part-right}
-use Rattle.dimacs.specs.Calls.{readCall}
+use Rattle.dimacs.specs.Inner.Calls.{readCall}
 use Rattle.host.proofs.simbolufa_read_dimacs.Statement.{statement}
 use Rattle.host.proofs.simbolufa_read_dimacs.Tie as tie
 

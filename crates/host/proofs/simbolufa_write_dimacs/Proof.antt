@@ -6,7 +6,7 @@ use lib.ListN.{getD}
 use borrow.Author.Needs.{needs}
 use Rattle.answer.specs.Answers.{Wrote}
 use Rattle.answer.proofs.Laws.Part.{leaves-wrong, leaves-right, part-right}
-use Rattle.dimacs.specs.Calls.{writeCall}
+use Rattle.dimacs.specs.Texts.{writeCall}
 use Rattle.host.proofs.simbolufa_write_dimacs.Statement.{statement}
 use Rattle.host.proofs.simbolufa_write_dimacs.Tie as tie
 

@@ -13,7 +13,8 @@ use Rattle.answer.specs.declared.Answer.{Answer}
 use Rattle.answer.specs.declared.Answer.the-variants.{Accepted, Room, Line}
 use Rattle.answer.proofs.Laws.Part.{stored-short, stored-fits}
 use Rattle.formula.specs.Tables.{nodeBytes}
-use Rattle.nodefile.specs.Files.{optionCount, lineOf, fileRight, fileNodes, recordsTo, fileTable, mostBytes, fileChecked, fileRead}
+use Rattle.nodefile.specs.Files.{optionCount, lineOf, fileRight, fileNodes, recordsTo, fileTable, mostBytes, fileChecked}
+use Rattle.nodefile.specs.Inner.Reads.{fileRead}
 use Rattle.nodefile.proofs.Laws.Files.{Refused, length-records}
 
 -- the text is too long

@@ -13,8 +13,8 @@ use Rattle.answer.specs.declared.Answer.{Answer}
 use Rattle.answer.specs.declared.Answer.the-variants.{Accepted, Room, ClauseBytes}
 use Rattle.answer.proofs.Laws.Order.{Kept, kept-stored, accepted-stored}
 use Rattle.clausebytes.specs.Words.{wrongBytes, clausesOf}
-use Rattle.dimacs.specs.Calls.{textLength, writeCall}
-use Rattle.dimacs.specs.Texts.{writtenText}
+use Rattle.dimacs.specs.Texts.{writeCall, writtenText}
+use Rattle.dimacs.specs.Inner.Calls.{textLength}
 use Rattle.program.specs.Printed.{bufferBytes, blank, Shows}
 use Rattle.program.proofs.Laws.Shows.{shows-stored}
 

@@ -21,7 +21,7 @@ use Rattle.clausal.specs.Clauses.{Clause, clausesBytes, Renaming, renaming, var
 use Rattle.clausal.specs.Output.{outputOf}
 use Rattle.clausal.specs.Totals.{Size, sizeOf, totals}
 use Rattle.clausal.proofs.Totals.{totals-output}
-use Rattle.clausebytes.specs.Words.{roomOf}
+use Rattle.clausebytes.specs.Inner.Checks.{roomOf}
 use Rattle.clausebytes.proofs.Encoded.{length-clauses}
 use Rattle.clausal.specs.Calls.{measured, ceilings, convertedUnder, converted}
 use Rattle.convert.specs.Inner.Fitted.{bytesFor}

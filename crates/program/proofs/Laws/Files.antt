@@ -16,7 +16,8 @@ use Rattle.answer.specs.declared.Answer.the-variants.{Accepted, Line}
 use Rattle.answer.proofs.Laws.Order.{accepted-afterwards}
 use Rattle.answer.proofs.Laws.Part.{stored-fits}
 use Rattle.formula.specs.Tables.{nodeBytes, mostNodes, mostTable}
-use Rattle.nodefile.specs.Files.{lineOf, firstWrong, fileRight, fileNodes, fileTable, mostBytes, fileChecked, fileRead, optionCount}
+use Rattle.nodefile.specs.Files.{lineOf, firstWrong, fileRight, fileNodes, fileTable, mostBytes, fileChecked, optionCount}
+use Rattle.nodefile.specs.Inner.Reads.{fileRead}
 use Rattle.nodefile.proofs.Laws.Files.{length-records}
 use Rattle.nodefile.proofs.Laws.Fits.{few-nodes, table-fits}
 use Rattle.program.specs.Printed.{unlessRefused, tablePrinted, printed}

@@ -10,7 +10,8 @@ use lib.Seq.{length-take-le}
 use Rattle.answer.specs.Answers.{toldOf, refuses, Wrote}
 use Rattle.answer.specs.declared.Told.{Told}
 use Rattle.formula.specs.Tables.{nodeBytes, mostTable}
-use Rattle.nodefile.specs.Files.{lineOf, fileTable, fileRead, optionCount}
+use Rattle.nodefile.specs.Files.{lineOf, fileTable, optionCount}
+use Rattle.nodefile.specs.Inner.Reads.{fileRead}
 use Rattle.program.specs.Printed.{tablePrinted}
 use Rattle.program.proofs.Laws.Files.{read-printed, read-options, read-few, read-size, read-table}
 use Rattle.program.proofs.Laws.Shows.{shows-as, line-refused, line-accepted}

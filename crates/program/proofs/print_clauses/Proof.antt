@@ -4,8 +4,7 @@ use mathlib.Core.List.{List}
 use Prim.Native.Nat.{ℕ}
 use borrow.Author.Needs.{needs}
 use Rattle.clausebytes.specs.Words.{clausesOf}
-use Rattle.dimacs.specs.Calls.{writeCall}
-use Rattle.dimacs.specs.Texts.{writtenText}
+use Rattle.dimacs.specs.Texts.{writeCall, writtenText}
 use Rattle.program.specs.Printed.{blank}
 use Rattle.program.proofs.Laws.Clauses.{write-answer, write-kept, write-shows}
 use Rattle.program.proofs.Laws.Shows.{shows-as, line-refused, line-accepted}

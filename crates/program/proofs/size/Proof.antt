@@ -4,7 +4,7 @@ use borrow.Author.Needs.{needs}
 use Rattle.answer.specs.Answers.{toldOf}
 use Rattle.answer.specs.declared.Answer.{Answer}
 use Rattle.answer.specs.declared.Told.{Told}
-use Rattle.clausebytes.specs.Words.{roomOf}
+use Rattle.clausebytes.specs.Inner.Checks.{roomOf}
 use Rattle.program.proofs.size.Statement.{statement}
 use Rattle.program.proofs.size.Tie as tie
 

@@ -7,7 +7,7 @@ use lib.ListN.{length}
 use Rattle.laws.specs.Inner.Stores.{Stored}
 use Rattle.answer.specs.Answers.{toldOf}
 use Rattle.formula.specs.Tables.{mostTable}
-use Rattle.clausebytes.specs.Words.{roomOf}
+use Rattle.clausebytes.specs.Inner.Checks.{roomOf}
 use Rattle.clausal.specs.Calls.{measured}
 use Rattle.program.specs.Printed.{bufferBytes}
 

@@ -1,4 +1,4 @@
--- R10.17 to R10.19 and R11.13, R11.14: what the two calls give.
+-- R10.17, R10.19 and R11.14: what the reading call gives, by the reader; and the length of a written text.
 -- Assumes nothing: these are definitions.
 use mathlib.Core.Bool.{cond}
 use mathlib.Core.List.{List}
@@ -6,7 +6,7 @@ use Prim.Native.Nat.{ℕ}
 use lib.ListN.{length}
 use Rattle.text.specs.Inner.Heads.{isDone, headOf}
 use Rattle.answer.specs.Answers.{Wrote, stored}
-use Rattle.answer.specs.declared.Answer.the-variants.{Accepted, Text, ClauseBytes}
+use Rattle.answer.specs.declared.Answer.the-variants.{Accepted, Text}
 use Rattle.clausebytes.specs.Words.{clausesOf, wrongBytes}
 use Rattle.dimacs.specs.Texts.{writtenText, cnf}
 use Rattle.dimacs.specs.Inner.States.{startOf, accepts, stateFrom, bytesFrom}
@@ -27,13 +27,6 @@ readCall text buffer =
     cond (isDone (head .phase))
     (readBody (startOf (head .place) (head .before) (head .value)) text (head .place) buffer)
     (record { answer = Text (head .place); output = buffer })
-
--- R10.18, R10.19 and R11.13: clause bytes, declared variables, and the buffer for the text: refusal 9, then 7
-abbrev pub writeCall : List ℕ → ℕ → List ℕ → Wrote (List ℕ)
-writeCall bytes v buffer =
-    cond (wrongBytes bytes v)
-    (record { answer = ClauseBytes; output = buffer })
-    (stored (Accepted v (length (clausesOf bytes))) (writtenText v (clausesOf bytes)) buffer)
 
 -- R9.3: the length of a written text; 0 where the clause bytes are wrong
 abbrev pub textLength : List ℕ → ℕ → ℕ
