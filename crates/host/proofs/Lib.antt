@@ -1,3 +1,2 @@
 -- Theorems of the entries.
 pub mod NoChoice
-pub mod Promise

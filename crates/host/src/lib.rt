@@ -12,7 +12,9 @@ use answer::is_part_wrong;
 // Checks a formula table for a project of `options` options.
 #[no_mangle]
 pub extern "C" fn simbolufa_check(table: &[u8], options: u32, answer: &mut [u8]) -> u32
-    ensures { λ r. ⌜ record { result = r; output = tt; part = now (answer .exit) } ≡ leaves (now (answer .entry)) tt (only (checked (now (table .entry)) options)) ⌝ }
+    ensures { λ r. ⌜ record { result = r; output = tt; part = now (answer .exit) }
+        ≡ leaves (now (answer .entry)) tt
+        (only (checked (now (table .entry)) options)) ⌝ }
 {
     if is_part_wrong(answer) {
         return 11;
@@ -28,7 +30,9 @@ pub extern "C" fn simbolufa_measure(
     set: &[u8],
     answer: &mut [u8],
 ) -> u32
-    ensures { λ r. ⌜ record { result = r; output = tt; part = now (answer .exit) } ≡ leaves (now (answer .entry)) tt (only (measured (now (table .entry)) options (now (set .entry)))) ⌝ }
+    ensures { λ r. ⌜ record { result = r; output = tt; part = now (answer .exit) }
+        ≡ leaves (now (answer .entry)) tt
+        (only (measured (now (table .entry)) options (now (set .entry)))) ⌝ }
 {
     if is_part_wrong(answer) {
         return 11;
@@ -45,7 +49,9 @@ pub extern "C" fn simbolufa_choose(
     set: &mut [u8],
     answer: &mut [u8],
 ) -> u32
-    ensures { λ r. ⌜ record { result = r; output = now (set .exit); part = now (answer .exit) } ≡ leaves (now (answer .entry)) (now (set .entry)) (chosenBy (now (table .entry)) options allowance (now (set .entry))) ⌝ }
+    ensures { λ r. ⌜ record { result = r; output = now (set .exit); part = now (answer .exit) }
+        ≡ leaves (now (answer .entry)) (now (set .entry))
+        (chosenBy (now (table .entry)) options allowance (now (set .entry))) ⌝ }
 {
     if is_part_wrong(answer) {
         return 11;
@@ -62,7 +68,9 @@ pub extern "C" fn simbolufa_convert(
     out: &mut [u8],
     answer: &mut [u8],
 ) -> u32
-    ensures { λ r. ⌜ record { result = r; output = now (out .exit); part = now (answer .exit) } ≡ leaves (now (answer .entry)) (now (out .entry)) (converted (now (table .entry)) options (now (set .entry)) (now (out .entry))) ⌝ }
+    ensures { λ r. ⌜ record { result = r; output = now (out .exit); part = now (answer .exit) }
+        ≡ leaves (now (answer .entry)) (now (out .entry))
+        (converted (now (table .entry)) options (now (set .entry)) (now (out .entry))) ⌝ }
 {
     if is_part_wrong(answer) {
         return 11;
@@ -81,7 +89,9 @@ pub extern "C" fn simbolufa_convert_after(
     out: &mut [u8],
     answer: &mut [u8],
 ) -> u32
-    ensures { λ r. ⌜ record { result = r; output = now (out .exit); part = now (answer .exit) } ≡ leaves (now (answer .entry)) (now (out .entry)) (convertedAfter (now (table .entry)) options taken (now (set .entry)) (now (out .entry))) ⌝ }
+    ensures { λ r. ⌜ record { result = r; output = now (out .exit); part = now (answer .exit) }
+        ≡ leaves (now (answer .entry)) (now (out .entry))
+        (convertedAfter (now (table .entry)) options taken (now (set .entry)) (now (out .entry))) ⌝ }
 {
     if is_part_wrong(answer) {
         return 11;
@@ -100,7 +110,9 @@ pub extern "C" fn simbolufa_write_dimacs(
     text: &mut [u8],
     answer: &mut [u8],
 ) -> u32
-    ensures { λ r. ⌜ record { result = r; output = now (text .exit); part = now (answer .exit) } ≡ leaves (now (answer .entry)) (now (text .entry)) (writeCall (now (clauses .entry)) variables (now (text .entry))) ⌝ }
+    ensures { λ r. ⌜ record { result = r; output = now (text .exit); part = now (answer .exit) }
+        ≡ leaves (now (answer .entry)) (now (text .entry))
+        (writeCall (now (clauses .entry)) variables (now (text .entry))) ⌝ }
 {
     if is_part_wrong(answer) {
         return 11;
@@ -111,7 +123,9 @@ pub extern "C" fn simbolufa_write_dimacs(
 // Reads DIMACS text as clause bytes: the declared variables and clauses are reported.
 #[no_mangle]
 pub extern "C" fn simbolufa_read_dimacs(text: &[u8], clauses: &mut [u8], answer: &mut [u8]) -> u32
-    ensures { λ r. ⌜ record { result = r; output = now (clauses .exit); part = now (answer .exit) } ≡ leaves (now (answer .entry)) (now (clauses .entry)) (readCall (now (text .entry)) (now (clauses .entry))) ⌝ }
+    ensures { λ r. ⌜ record { result = r; output = now (clauses .exit); part = now (answer .exit) }
+        ≡ leaves (now (answer .entry)) (now (clauses .entry))
+        (readCall (now (text .entry)) (now (clauses .entry))) ⌝ }
 {
     if is_part_wrong(answer) {
         return 11;

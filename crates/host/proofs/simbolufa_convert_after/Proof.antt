@@ -1,0 +1,52 @@
+-- `host::simbolufa_convert_after` meets its contract: a wrong answer part is looked at first, and the conversion is given. Assumes nothing.
+use mathlib.Core.List.{List}
+use Prim.Native.Nat.{ℕ}
+use borrow.Author.Needs.{needs}
+use Rattle.answer.specs.Part.{Wrote}
+use Rattle.answer.proofs.Laws.Part.{leaves-wrong, leaves-right, part-right}
+use Rattle.convert.specs.Converted.{convertedAfter}
+use Rattle.host.proofs.simbolufa_convert_after.Statement.{statement}
+use Rattle.host.proofs.simbolufa_convert_after.Tie as tie
+
+abbrev wrote : tie.Start → Wrote (List ℕ)
+wrote start = let a = start .args in convertedAfter (a .table .now) (a .options) (a .taken) (a .set .now) (a .out .now)
+
+part-wrong : tie.Need-returns
+part-wrong c =
+    let test = c .before in
+    let known = test .before .before in
+    let start = known .before .before .before .before in
+    leaves-wrong (start .args .answer .now) (start .args .out .now) (wrote start) _ (test .is-part-wrong .ensures) (c .if1 .taken)
+
+give-asked : tie.Need-give-requires
+give-asked c κs =
+    let call = c .before .before .before in
+    let if1 = call .before .before in
+    let test = if1 .before in
+    let known = test .before .before in
+    let start = known .before .before .before .before in
+    part-right (start .args .answer .now) _ (test .is-part-wrong .ensures) (if1 .if1 .left)
+
+answered : tie.Need-returns-2
+answered c =
+    let give = c .before .before in
+    let call = give .before .before .before .before in
+    let if1 = call .before .before in
+    let test = if1 .before in
+    let known = test .before .before in
+    let start = known .before .before .before .before in
+    leaves-right (start .args .answer .now) (start .args .out .now) (wrote start) (record { answer = call .convert-after .result; output = call .convert-after .last .1 .1 .1 .1 .0 })
+    _ (test .is-part-wrong .ensures) (if1 .if1 .left) (call .convert-after .ensures) (give .give .ensures)
+
+pub simbolufa-convert-after-spec : {M : Type 1} → statement M
+simbolufa-convert-after-spec =
+    tie.close
+    (tie.spec
+    (λ c κs. search needs)
+    (λ c. search needs)
+    part-wrong
+    (λ c κs. search needs)
+    give-asked
+    (λ c. search needs)
+    (λ c. search needs)
+    answered)
