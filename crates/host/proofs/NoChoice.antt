@@ -50,7 +50,7 @@ convert-after-settled κs a r q s t e f = left-settled e f
 pub write-dimacs-settled : (κs : Lfts 3) (a : Dens κs write-dimacs-kinds.ps) (r q : resT write-dimacs-kinds.r κs .Denot)
     (s t : AtExit (endedOf 3 write-dimacs-kinds.ps write-dimacs-kinds.r) κs) → write-dimacs.Post κs a r s → write-dimacs.Post κs a q t
     → (r ≡ q) × (now (s .1 .1 .0) ≡ now (t .1 .1 .0)) × (now (s .1 .1 .1 .0) ≡ now (t .1 .1 .1 .0))
-write-dimacs-settled κs a r q s t e f = left-settled e f
+write-dimacs-settled κs a r q s t e f = left-settled (e .0) (f .0)
 
 pub read-dimacs-settled : (κs : Lfts 3) (a : Dens κs read-dimacs-kinds.ps) (r q : resT read-dimacs-kinds.r κs .Denot)
     (s t : AtExit (endedOf 3 read-dimacs-kinds.ps read-dimacs-kinds.r) κs) → read-dimacs.Post κs a r s → read-dimacs.Post κs a q t

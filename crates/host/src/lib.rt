@@ -1,5 +1,7 @@
 // The entries that a host calls, and nothing else. Each looks first at its answer part.
 ghost use mathlib.Core.Path.{_≡_};
+ghost use Prim.Native.Nat.{ℕ, _<_};
+ghost use lib.ListN.{getD};
 ghost use Rattle.answer.specs.Part.{only, leaves};
 ghost use Rattle.formula.specs.Checks.{checked};
 ghost use Rattle.totals.specs.Measured.{measured};
@@ -102,7 +104,8 @@ pub extern "C" fn simbolufa_convert_after(
     )
 }
 
-// Writes clause bytes as DIMACS text with `variables` declared: variables and clauses are reported.
+// Writes clause bytes as DIMACS text with `variables` declared: variables and clauses are reported. That a lent byte is below 256 is
+// said too: the round trip asks it.
 #[no_mangle]
 pub extern "C" fn simbolufa_write_dimacs(
     clauses: &[u8],
@@ -110,9 +113,10 @@ pub extern "C" fn simbolufa_write_dimacs(
     text: &mut [u8],
     answer: &mut [u8],
 ) -> u32
-    ensures { λ r. ⌜ record { result = r; output = now (text .exit); part = now (answer .exit) }
+    ensures { λ r. ⌜ (record { result = r; output = now (text .exit); part = now (answer .exit) }
         ≡ leaves (now (answer .entry)) (now (text .entry))
-        (writeCall (now (clauses .entry)) variables (now (text .entry))) ⌝ }
+        (writeCall (now (clauses .entry)) variables (now (text .entry))))
+        × ((i : ℕ) → getD (now (clauses .entry)) i 0 < 256) ⌝ }
 {
     if is_part_wrong(answer) {
         return 11;

@@ -1,6 +1,8 @@
 -- `host::simbolufa_write_dimacs` meets its contract: a wrong answer part is looked at first, and what was written is given. Assumes nothing.
 use mathlib.Core.List.{List}
-use Prim.Native.Nat.{ℕ}
+use Prim.Native.Nat.{ℕ, _<_}
+use native.Mathlib.Omega.{arith}
+use lib.ListN.{getD}
 use borrow.Author.Needs.{needs}
 use Rattle.answer.specs.Part.{Wrote}
 use Rattle.answer.proofs.Laws.Part.{leaves-wrong, leaves-right, part-right}
@@ -11,12 +13,16 @@ use Rattle.host.proofs.simbolufa_write_dimacs.Tie as tie
 abbrev wrote : tie.Start → Wrote (List ℕ)
 wrote start = let a = start .args in writeCall (a .clauses .now) (a .variables) (a .text .now)
 
+-- what is lent is bytes
+lent : (c : tie.After-shared-slice-known) (i : ℕ) → getD (c .before .args .clauses .now) i 0 < 256
+lent c i = omega (arith, c .shared-slice-known .given i)
+
 part-wrong : tie.Need-returns
 part-wrong c =
     let test = c .before in
     let known = test .before .before in
     let start = known .before .before .before in
-    leaves-wrong (start .args .answer .now) (start .args .text .now) (wrote start) _ (test .is-part-wrong .ensures) (c .if1 .taken)
+    (leaves-wrong (start .args .answer .now) (start .args .text .now) (wrote start) _ (test .is-part-wrong .ensures) (c .if1 .taken), lent (known .before .before))
 
 give-asked : tie.Need-give-requires
 give-asked c κs =
@@ -34,9 +40,11 @@ answered c =
     let if1 = call .before .before in
     let test = if1 .before in
     let known = test .before .before in
-    let start = known .before .before .before in
-    leaves-right (start .args .answer .now) (start .args .text .now) (wrote start) (record { answer = call .write .result; output = call .write .last .1 .1 .0 })
-    _ (test .is-part-wrong .ensures) (if1 .if1 .left) (call .write .ensures) (give .give .ensures)
+    let start = known .before .before .before in (
+      leaves-right (start .args .answer .now) (start .args .text .now) (wrote start) (record { answer = call .write .result; output = call .write .last .1 .1 .0 })
+          _ (test .is-part-wrong .ensures) (if1 .if1 .left) (call .write .ensures) (give .give .ensures),
+      lent (known .before .before),
+    )
 
 pub simbolufa-write-dimacs-spec : {M : Type 1} → statement M
 simbolufa-write-dimacs-spec =
