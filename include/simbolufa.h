@@ -27,9 +27,9 @@
  *   node number. A helper stands for its node in the clauses of the node's parents, and more clauses
  *   define it.
  *
- *   Guards that are solved together are converted one after the other by simbolufa_convert_after, each
- *   with the variables that the call before reported. Then each variable is an option of the project or
- *   the helper of one node of one guard. By simbolufa_convert each guard's helpers begin at V + 1.
+ *   simbolufa_convert gives every guard the helpers from V + 1 on. So guards that are solved together are
+ *   converted one after the other by simbolufa_convert_after, each with the variables that the call before
+ *   reported. Then each variable is an option of the project, or the helper of one node of one guard.
  *
  * Totals
  *
@@ -103,7 +103,7 @@ enum simbolufa_number {
     SIMBOLUFA_ACCEPTED = 0,
     /* The table is empty, is not a multiple of 5 bytes, or is over 5,120 bytes. */
     SIMBOLUFA_REFUSED_TABLE_LENGTH = 1,
-    /* V is over 32,000. Or what is taken already is below V or over 32,000. */
+    /* V is over 32,000. Or, looked at after refusal 3, what is taken is below V or over 32,000. */
     SIMBOLUFA_REFUSED_OPTIONS = 2,
     /* A node's record breaks the rules of the node table. Place: the lowest such node. */
     SIMBOLUFA_REFUSED_RECORD = 3,
@@ -191,9 +191,10 @@ uint32_t simbolufa_convert(const uint8_t *table, size_t table_len, uint32_t opti
                            size_t answer_len);
 
 /*
- * Converts a guard that is solved together with others. `options` is V, and the table is checked by it.
- * `taken` is the highest variable in use: V for the first guard, then the variables that the call before
- * reported. Helpers are taken + 1, taken + 2, .. . With taken equal to V it is simbolufa_convert.
+ * Converts a guard that is solved together with others. `options` is V, and the table is checked by it: a
+ * helper of another guard is no symbol. `taken` is the highest variable in use: V for the first guard, then
+ * the variables that the call before reported. Helpers are taken + 1, taken + 2, .. . With taken equal to V
+ * it is simbolufa_convert.
  *
  * Returns what simbolufa_convert returns. After the checks of the table it is 2 also where `taken` is
  * below V or over 32,000. The values of the answer part are the variables (`taken` and the number of

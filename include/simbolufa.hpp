@@ -2,8 +2,8 @@
  * Simbolufa for C++17: the entries of simbolufa.h with views in place of pointers, and one answer.
  *
  * simbolufa.h says what each call does, what it refuses and how much stack it takes. Nothing here
- * allocates or throws, and only `together` keeps state. The answer part is on the stack of the call, so refusal 11 does not
- * occur, and it overlaps no buffer of the caller.
+ * allocates or throws, and only `together` keeps state. The answer part is on the stack of the call, so
+ * refusal 11 does not occur, and it overlaps no buffer of the caller.
  *
  * A guard from table to DIMACS text:
  *
