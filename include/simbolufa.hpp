@@ -233,15 +233,12 @@ inline answer convert_after(bytes table, std::uint32_t options, std::uint32_t ta
     });
 }
 
-/*
- * Guards of one project that are solved together: each is converted after the variables of those before it. A guard that
- * is refused takes no variable.
- */
+/* Guards of one project that are solved together. Each is converted after the variables of those before it. */
 class together {
 public:
     constexpr explicit together(std::uint32_t options) noexcept : project(options), taken(options) {}
 
-    /* Converts the next guard. Values: variables so far, clauses of this guard. */
+    /* Converts the next guard. Values: variables so far, clauses of this guard. A refused guard takes no variable. */
     answer convert(bytes table, bytes set, room clauses) noexcept
     {
         const answer told = convert_after(table, project, taken, set, clauses);
