@@ -13,7 +13,7 @@ use Rattle.formula.specs.declared.node.Node.{Node}
 use Rattle.clausal.specs.Choosing.{Choice, totalUnder, choose}
 use Rattle.clausal.specs.Renamings.{Renaming, renaming}
 
--- R8.6: the answer to a choice is picks and final total; the set is written whole
+-- R8.6, R8.7: the answer to a choice is picks and final total; the set is written whole
 abbrev pub told : Renaming → List Node → Choice → Wrote (List ℕ)
 told u ns c = record { answer = Accepted (c .picks) (totalUnder u ns (c .chosen)); output = c .chosen }
 

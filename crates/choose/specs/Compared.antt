@@ -1,4 +1,4 @@
--- R15.8, R15.9: what is promised of two allowances.
+-- R15.7, R15.8: what is promised of two allowances.
 -- Assumes nothing: this is a definition.
 use mathlib.Core.Bool.{true}
 use mathlib.Core.List.{List}

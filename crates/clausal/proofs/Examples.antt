@@ -1,4 +1,4 @@
--- "Examples": the marked examples of the rules, in one table under one statement.
+-- R14: the marked examples of the rules, in one table under one statement.
 -- Assumes nothing.
 use mathlib.Core.List.{List, [], _∷_, _++_}
 use Prim.Native.Nat.{ℕ}

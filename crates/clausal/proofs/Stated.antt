@@ -144,7 +144,7 @@ readings =
     ∷ record { table = twice ++ and-of 29 0; clauses = 65_535; literals = 65_535; clausesRead = 65_535; literalsRead = 1_000_000 }
     -- at the clause ceiling no literal total is stated, even where there is no literal
     ∷ record { table = falses 16; clauses = 65_536; literals = 0; clausesRead = 65_535; literalsRead = 1_000_000 }
-    -- "a huge total joined with true is 0"
+    -- R7.2: a total joined with that of true is 0, however large it is
     ∷ record { table = falses 16 ++ true-node ++ or-of 16 17; clauses = 0; literals = 0; clausesRead = 0; literalsRead = 0 }
     ∷ []
 

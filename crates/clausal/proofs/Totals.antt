@@ -68,18 +68,18 @@ module _ (u : Renaming) (ns : List Node) where
   pub totals-output : totals u ns ≡ shown (sizeOf (outputOf u ns))
   totals-output = totals-shown ∙ ap shown (sym size-output)
 
-  -- "A clause total is read at a ceiling of 65,535 (that or more shows as 65,535)"
+  -- R7.3
   pub clauses-read : totals u ns .clauses ≡ cap clauseCeiling (length (outputOf u ns))
   clauses-read = ap (λ (x : Size). x .clauses) totals-output
 
-  -- "A literal total is stated only where its clause total is below 65,535 .."
+  -- R7.4, below the ceiling of clauses
   pub literals-stated : length (outputOf u ns) < clauseCeiling
       → totals u ns .literals ≡ cap literalCeiling (literalsIn (outputOf u ns))
   literals-stated h =
       let read = read-under clauseCeiling literalCeiling (lit< tt) (lit< tt) (sizeOf (outputOf u ns)) h in
       ap (λ (x : Size). x .literals) (totals-output ∙ read)
 
-  -- ".. otherwise it is reported as 1,000,000"
+  -- R7.5
   pub literals-not-stated : clauseCeiling ≤ length (outputOf u ns) → totals u ns .literals ≡ literalCeiling
   literals-not-stated h =
       let read = read-over clauseCeiling literalCeiling (lit< tt) (lit< tt) (sizeOf (outputOf u ns)) h in

@@ -35,7 +35,7 @@ module _ (ρ : ℕ → Bool) where
       ap (λ (b : Bool). literalTrue ρ l || b) (clause-append c d)
       ∙ sym (or-assoc (literalTrue ρ l) (clauseTrue ρ c) (clauseTrue ρ d))
 
-  satisfies-append : (cs ds : List Clause) → satisfies ρ (cs ++ ds) ≡ (satisfies ρ cs && satisfies ρ ds)
+  pub satisfies-append : (cs ds : List Clause) → satisfies ρ (cs ++ ds) ≡ (satisfies ρ cs && satisfies ρ ds)
   satisfies-append [] ds = refl
   satisfies-append (c ∷ cs) ds =
       ap (λ (b : Bool). clauseTrue ρ c && b) (satisfies-append cs ds)

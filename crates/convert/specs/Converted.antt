@@ -1,4 +1,4 @@
--- R6, R10.16 to R10.19, R12: what a converting call answers, and the output buffer afterwards.
+-- R6, R10.15 to R10.19, R12: what a converting call answers, and the output buffer afterwards.
 -- Assumes nothing: these are definitions.
 use mathlib.Core.Bool.{cond, _||_}
 use mathlib.Core.List.{List}
@@ -33,7 +33,7 @@ convertedUnder u ns before =
 abbrev pub converted : List ℕ → ℕ → List ℕ → List ℕ → Wrote (List ℕ)
 converted t v s before = afterwards (checked t v) before (convertedUnder (renaming v s) (nodesOf t) before)
 
--- R12.4: what is taken has all options, and no more than a project may have
+-- R12.5: what is taken has all options, and no more than a project may have
 abbrev pub takenChecked : ℕ → ℕ → Answer
 takenChecked v taken = cond (ltb taken v || ltb mostOptions taken) Options (Accepted 0 0)
 

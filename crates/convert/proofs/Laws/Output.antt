@@ -32,7 +32,7 @@ use Rattle.convert.specs.Inner.Helpers.{helpersOf}
 use Rattle.convert.specs.Inner.Lists.{namesIn, ownList}
 use Rattle.convert.specs.Inner.Parts.{around, partOf, half, definedBy, definedTo, allParts}
 
--- "the join of -h with its P", and "the join of its N with h"
+-- R5.3, R5.4
 abbrev literal : Bool → ℕ → Literal
 literal plain x = record { plain = plain; variable = x }
 

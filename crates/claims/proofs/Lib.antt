@@ -1,0 +1,6 @@
+-- The proofs of what was asked for.
+pub mod Answered
+pub mod Outputs
+pub mod Meanings
+pub mod Chains
+pub mod Demands

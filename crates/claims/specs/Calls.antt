@@ -1,0 +1,193 @@
+-- What a host sees of a call of each entry: a call is whatever the entry's contract allows, as the check reads it (`Reads.Post`).
+-- Assumes nothing: these are definitions.
+use mathlib.Core.List.{List, [], _∷_, _++_}
+use Prim.Native.Nat.{ℕ}
+use lib.ListN.{length, getD, drop}
+use contract.Lifetimes.{Lfts}
+use denote.Ref.{now}
+use denote.Triple.Clauses.{AtExit}
+use borrow.Fn.Kinds.{PK, RK, Dens, Out, endedOf, resT}
+use Rattle.laws.specs.Numbers.{littleAt}
+use Rattle.formula.specs.Nodes.{nodesOf}
+use Rattle.formula.specs.declared.node.Node.{Node}
+use Rattle.clausal.specs.Renamings.{Renaming, renaming}
+use Rattle.host.proofs.simbolufa_check.Kinds as check-kinds
+use Rattle.host.proofs.simbolufa_check.Reads as check
+use Rattle.host.proofs.simbolufa_measure.Kinds as measure-kinds
+use Rattle.host.proofs.simbolufa_measure.Reads as measure
+use Rattle.host.proofs.simbolufa_choose.Kinds as choose-kinds
+use Rattle.host.proofs.simbolufa_choose.Reads as choose
+use Rattle.host.proofs.simbolufa_convert.Kinds as convert-kinds
+use Rattle.host.proofs.simbolufa_convert.Reads as convert
+use Rattle.host.proofs.simbolufa_convert_after.Kinds as after-kinds
+use Rattle.host.proofs.simbolufa_convert_after.Reads as after
+use Rattle.host.proofs.simbolufa_write_dimacs.Kinds as write-kinds
+use Rattle.host.proofs.simbolufa_write_dimacs.Reads as write
+use Rattle.host.proofs.simbolufa_read_dimacs.Kinds as read-kinds
+use Rattle.host.proofs.simbolufa_read_dimacs.Reads as read
+
+-- the arguments, what is returned, what is lent as it stands at the end, and the contract's word for it
+pub record Call {n : ℕ} (ps : List (PK n)) (r : RK n) (Post : Out n ps r) : Type 0 where
+  pub κs : Lfts n
+  pub args : Dens κs ps
+  pub result : resT r κs .Denot
+  pub exit : AtExit (endedOf n ps r) κs
+  pub promise : Post κs args result exit
+
+-- what is returned, the lent outputs before and after the call, and the answer part before and after it
+pub record Seen (O : Type 0) : Type 0 where
+  pub returned : ℕ
+  pub before : O
+  pub after : O
+  pub part : List ℕ
+  pub told : List ℕ
+
+-- R11.3: the two values that the answer part tells
+abbrev pub first : {O : Type 0} → Seen O → ℕ
+first s = littleAt 4 (s .told) 8
+
+abbrev pub second : {O : Type 0} → Seen O → ℕ
+second s = littleAt 4 (s .told) 12
+
+-- R11.6: bytes that lead a buffer, behind which it is as before
+abbrev pub over : List ℕ → List ℕ → List ℕ
+over bytes before = bytes ++ drop (length bytes) before
+
+-- what is handed over of a guard: its table, the project's options, what is taken (the options, where nothing else is), and the set
+pub record Guard : Type 0 where
+  pub table : List ℕ
+  pub options : ℕ
+  pub taken : ℕ
+  pub set : List ℕ
+
+abbrev pub nodes : Guard → List Node
+nodes g = nodesOf (g .table)
+
+abbrev pub names : Guard → Renaming
+names g = renaming (g .taken) (g .set)
+
+-- `simbolufa_check`
+abbrev pub Check : Type 0
+Check = Call check-kinds.ps check-kinds.r check.Post
+
+abbrev pub checkSeen : Check → Seen (Unit {0})
+checkSeen c = record {
+  returned = c .result;
+  before = tt;
+  after = tt;
+  part = now (c .args .1 .1 .0);
+  told = now (c .exit .1 .1 .0);
+}
+
+abbrev pub checkGuard : Check → Guard
+checkGuard c = record { table = now (c .args .0); options = c .args .1 .0; taken = c .args .1 .0; set = [] }
+
+-- `simbolufa_measure`
+abbrev pub Measure : Type 0
+Measure = Call measure-kinds.ps measure-kinds.r measure.Post
+
+abbrev pub measureSeen : Measure → Seen (Unit {0})
+measureSeen c = record {
+  returned = c .result;
+  before = tt;
+  after = tt;
+  part = now (c .args .1 .1 .1 .0);
+  told = now (c .exit .1 .1 .1 .0);
+}
+
+abbrev pub measureGuard : Measure → Guard
+measureGuard c = record { table = now (c .args .0); options = c .args .1 .0; taken = c .args .1 .0; set = now (c .args .1 .1 .0) }
+
+-- `simbolufa_choose`
+abbrev pub Choose : Type 0
+Choose = Call choose-kinds.ps choose-kinds.r choose.Post
+
+abbrev pub chooseSeen : Choose → Seen (List ℕ)
+chooseSeen c = record {
+  returned = c .result;
+  before = now (c .args .1 .1 .1 .0);
+  after = now (c .exit .1 .1 .1 .0);
+  part = now (c .args .1 .1 .1 .1 .0);
+  told = now (c .exit .1 .1 .1 .1 .0);
+}
+
+abbrev pub chooseGuard : Choose → Guard
+chooseGuard c = record { table = now (c .args .0); options = c .args .1 .0; taken = c .args .1 .0; set = [] }
+
+abbrev pub allowance : Choose → ℕ
+allowance c = c .args .1 .1 .0
+
+-- `simbolufa_convert`
+abbrev pub Convert : Type 0
+Convert = Call convert-kinds.ps convert-kinds.r convert.Post
+
+abbrev pub convertSeen : Convert → Seen (List ℕ)
+convertSeen c = record {
+  returned = c .result;
+  before = now (c .args .1 .1 .1 .0);
+  after = now (c .exit .1 .1 .1 .0);
+  part = now (c .args .1 .1 .1 .1 .0);
+  told = now (c .exit .1 .1 .1 .1 .0);
+}
+
+abbrev pub convertGuard : Convert → Guard
+convertGuard c = record { table = now (c .args .0); options = c .args .1 .0; taken = c .args .1 .0; set = now (c .args .1 .1 .0) }
+
+-- `simbolufa_convert_after`
+abbrev pub ConvertAfter : Type 0
+ConvertAfter = Call after-kinds.ps after-kinds.r after.Post
+
+abbrev pub afterSeen : ConvertAfter → Seen (List ℕ)
+afterSeen c = record {
+  returned = c .result;
+  before = now (c .args .1 .1 .1 .1 .0);
+  after = now (c .exit .1 .1 .1 .1 .0);
+  part = now (c .args .1 .1 .1 .1 .1 .0);
+  told = now (c .exit .1 .1 .1 .1 .1 .0);
+}
+
+abbrev pub afterGuard : ConvertAfter → Guard
+afterGuard c = record { table = now (c .args .0); options = c .args .1 .0; taken = c .args .1 .1 .0; set = now (c .args .1 .1 .1 .0) }
+
+-- the guards of calls one after the other, and guard k of them
+abbrev pub guards : List ConvertAfter → List Guard
+guards [] = []
+guards (c ∷ cs) = afterGuard c ∷ guards cs
+
+abbrev pub guardIn : List Guard → ℕ → Guard
+guardIn gs k = getD gs k (record { table = []; options = 0; taken = 0; set = [] })
+
+-- `simbolufa_write_dimacs`
+abbrev pub Write : Type 0
+Write = Call write-kinds.ps write-kinds.r write.Post
+
+abbrev pub writeSeen : Write → Seen (List ℕ)
+writeSeen c = record {
+  returned = c .result;
+  before = now (c .args .1 .1 .0);
+  after = now (c .exit .1 .1 .0);
+  part = now (c .args .1 .1 .1 .0);
+  told = now (c .exit .1 .1 .1 .0);
+}
+
+abbrev pub clauseBytes : Write → List ℕ
+clauseBytes c = now (c .args .0)
+
+abbrev pub declared : Write → ℕ
+declared c = c .args .1 .0
+
+-- `simbolufa_read_dimacs`
+abbrev pub Read : Type 0
+Read = Call read-kinds.ps read-kinds.r read.Post
+
+abbrev pub readSeen : Read → Seen (List ℕ)
+readSeen c = record {
+  returned = c .result;
+  before = now (c .args .1 .0);
+  after = now (c .exit .1 .0);
+  part = now (c .args .1 .1 .0);
+  told = now (c .exit .1 .1 .0);
+}
+
+abbrev pub textOf : Read → List ℕ
+textOf c = now (c .args .0)

@@ -1,0 +1,148 @@
+-- What was asked for, said of the seven entries over their contracts as the check reads them, in the order of the demands (R15).
+-- `Calls` says what a host sees of a call. The proofs are in `proofs/`. Assumes nothing: these are statements.
+use mathlib.Core.Bool.{Bool, true, false}
+use mathlib.Core.List.{List, [], _∷_, _++_}
+use mathlib.Core.Logic.{_≢_}
+use mathlib.Core.Path.{_≡_}
+use Prim.Native.Nat.{ℕ, _≤_, _<_}
+use lib.Dec.{T}
+use lib.ListN.{length, getD, take, replicate}
+use Rattle.laws.specs.Lists.{Every}
+use Rattle.answer.specs.Numbers.{toldOf}
+use Rattle.answer.specs.Part.{bytesOf}
+use Rattle.answer.specs.declared.Answer.{Answer}
+use Rattle.answer.specs.declared.Answer.the-variants.{Accepted}
+use Rattle.formula.specs.Checks.{checked}
+use Rattle.formula.specs.Nodes.{nodeIn}
+use Rattle.formula.specs.Sets.{renamed}
+use Rattle.formula.specs.Truths.{formulaTrue}
+use Rattle.formula.specs.declared.node.Kind.the-variants.{Symbol}
+use Rattle.clausal.specs.Choosing.{Choice, choose, totalUnder}
+use Rattle.clausal.specs.Literals.{Clause, clausesBytes}
+use Rattle.clausal.specs.Origins.{Named}
+use Rattle.clausal.specs.Output.{outputOf}
+use Rattle.clausal.specs.Renamings.{helperOf, variablesOf}
+use Rattle.clausal.specs.Satisfies.{satisfies, Extends}
+use Rattle.clausal.specs.Totals.{totals}
+use Rattle.clausebytes.specs.Right.{wrongBytes}
+use Rattle.clausebytes.specs.Words.{clausesOf}
+use Rattle.totals.specs.Measured.{measured}
+use Rattle.choose.specs.Chosen.{chosenBy}
+use Rattle.convert.specs.Converted.{converted, convertedAfter}
+use Rattle.dimacs.specs.Calls.{writeCall, readCall, textLength}
+use Rattle.dimacs.specs.Grammar.{Text}
+use Rattle.dimacs.specs.Written.{writtenText}
+use Rattle.claims.specs.Calls.{Seen, first, second, Guard, nodes, names, Check, checkSeen, checkGuard, Measure, measureSeen}
+use Rattle.claims.specs.Calls.{measureGuard, Choose, chooseSeen, chooseGuard, allowance, Convert, convertSeen, convertGuard}
+use Rattle.claims.specs.Calls.{ConvertAfter, afterSeen, afterGuard, guards, guardIn, Write, writeSeen, clauseBytes, declared, Read}
+use Rattle.claims.specs.Calls.{readSeen, textOf, over}
+
+-- Demand 1. That every call ends (R15.2) is what the check proves of each entry: its `Statement.statement`, which is the kit's
+-- `denote.Triple.Spec.Meets`. No entry has a `requires`, and what never returns meets no such contract (the kit's `no-contract-hang`).
+
+-- R15.3, R15.4: of a call that has to answer a. A part that is not 16 bytes long is refusal 11, and then no byte changes. Otherwise
+-- the number of the table of refusals is returned, and the part has the 16 bytes. A refusal changes no other lent byte
+pub record Answers {O : Type 0} (a : Answer) (s : Seen O) : Type 0 where
+  pub wrong-part : length (s .part) ≢ 16 → (s .returned ≡ 11) × (s .told ≡ s .part) × (s .after ≡ s .before)
+  pub right-part : length (s .part) ≡ 16 → (s .returned ≡ toldOf a .number) × (s .told ≡ bytesOf (toldOf a))
+  pub kept : s .returned ≢ 0 → s .after ≡ s .before
+
+pub record Demand1 : Type 0 where
+  pub check : (c : Check) → let g = checkGuard c in Answers (checked (g .table) (g .options)) (checkSeen c)
+  pub measure : (c : Measure) → let g = measureGuard c in Answers (measured (g .table) (g .options) (g .set)) (measureSeen c)
+  pub choose : (c : Choose) → let g = chooseGuard c in
+      Answers (chosenBy (g .table) (g .options) (allowance c) (chooseSeen c .before) .answer) (chooseSeen c)
+  pub convert : (c : Convert) → let g = convertGuard c in
+      Answers (converted (g .table) (g .options) (g .set) (convertSeen c .before) .answer) (convertSeen c)
+  pub convertAfter : (c : ConvertAfter) → let g = afterGuard c in
+      Answers (convertedAfter (g .table) (g .options) (g .taken) (g .set) (afterSeen c .before) .answer) (afterSeen c)
+  pub write : (c : Write) → Answers (writeCall (clauseBytes c) (declared c) (writeSeen c .before) .answer) (writeSeen c)
+  pub read : (c : Read) → Answers (readCall (textOf c) (readSeen c .before) .answer) (readSeen c)
+
+-- a call that accepted tells two values, and leaves the outputs so
+pub record Gives {O : Type 0} (s : Seen O) (x y : ℕ) (after : O) : Type 0 where
+  pub values : s .told ≡ bytesOf (toldOf (Accepted x y))
+  pub outputs : s .after ≡ after
+
+-- the bytes of a guard's clauses, and the clauses that these bytes stand for
+abbrev pub written : Guard → List ℕ
+written g = clausesBytes (outputOf (names g) (nodes g))
+
+abbrev pub decoded : Guard → List Clause
+decoded g = clausesOf (written g)
+
+-- Demand 2, R15.5: where 0 is returned, totals, set, clauses and text are those of the rules; a text that is read is in the grammar
+abbrev pub Converts : Guard → Seen (List ℕ) → Type 0
+Converts g s = Gives s (variablesOf (names g) (length (nodes g))) (length (outputOf (names g) (nodes g))) (over (written g) (s .before))
+
+pub record Demand2 : Type 0 where
+  pub check : (c : Check) → checkSeen c .returned ≡ 0 → Gives (checkSeen c) 0 0 tt
+  pub measure : (c : Measure) → measureSeen c .returned ≡ 0 → let g = measureGuard c in
+      Gives (measureSeen c) (totals (names g) (nodes g) .clauses) (totals (names g) (nodes g) .literals) tt
+  pub choose : (c : Choose) → chooseSeen c .returned ≡ 0 → let g = chooseGuard c in
+      let d : Choice = choose (allowance c) (names g) (nodes g) in
+      Gives (chooseSeen c) (d .picks) (totalUnder (names g) (nodes g) (d .chosen)) (d .chosen)
+  pub convert : (c : Convert) → convertSeen c .returned ≡ 0 → Converts (convertGuard c) (convertSeen c)
+  pub convertAfter : (c : ConvertAfter) → afterSeen c .returned ≡ 0 → Converts (afterGuard c) (afterSeen c)
+  pub write : (c : Write) → writeSeen c .returned ≡ 0 → let cs = clausesOf (clauseBytes c) in
+      Gives (writeSeen c) (declared c) (length cs) (over (writtenText (declared c) cs) (writeSeen c .before))
+  pub read : (c : Read) → readSeen c .returned ≡ 0 → (v : ℕ) × (cs : List Clause) × Text v cs (textOf c)
+      × Gives (readSeen c) v (length cs) (over (clausesBytes cs) (readSeen c .before))
+  -- R15.6: the text that a call has written is read, given room, as the same clause bytes with the same two values
+  pub roundTrip : (w : Write) (r : Read) → writeSeen w .returned ≡ 0
+      → textOf r ≡ take (textLength (clauseBytes w) (declared w)) (writeSeen w .after)
+      → length (clauseBytes w) ≤ length (readSeen r .before) → length (readSeen r .part) ≡ 16
+      → (readSeen r .returned ≡ 0) × (readSeen r .told ≡ writeSeen w .told)
+      × (readSeen r .after ≡ over (clauseBytes w) (readSeen r .before))
+
+-- Demand 3 of clauses, and the naming rule (R3.10, R3.11, R12.8): what the clauses in the bytes of a guard mean
+pub record Means (g : Guard) : Type 0 where
+  -- R15.9, R15.10: a row of the clauses is one of the formula; one of the formula, with each helper at its node's truth, of the clauses
+  pub sound : (ρ : ℕ → Bool) → T (satisfies ρ (decoded g)) → T (formulaTrue ρ (nodes g))
+  pub complete : (ρ τ : ℕ → Bool) → Extends (g .options) (names g) (nodes g) ρ τ → T (formulaTrue ρ (nodes g))
+      → T (satisfies τ (decoded g))
+  pub extended : (ρ : ℕ → Bool) → (τ : ℕ → Bool) × Extends (g .options) (names g) (nodes g) ρ τ
+  -- helpers dropped: the formula's truth reads a row at the options 1 to V alone
+  pub dropped : (ρ τ : ℕ → Bool) → ((x : ℕ) → 0 < x → x ≤ g .options → ρ x ≡ τ x)
+      → formulaTrue ρ (nodes g) ≡ formulaTrue τ (nodes g)
+  -- a variable is a symbol that the guard names, an option of the project; or it is the helper of one renamed node, after all that is taken
+  pub named : Named (names g) (nodes g) (decoded g)
+  pub options : (i : ℕ) → nodeIn (nodes g) i .kind ≡ Symbol → (0 < nodeIn (nodes g) i .a) × (nodeIn (nodes g) i .a ≤ g .options)
+  pub helpers : (i : ℕ) → renamed (g .set) i ≡ true → (g .options < helperOf (names g) i) × (g .taken < helperOf (names g) i)
+  pub one : (i j : ℕ) → renamed (g .set) i ≡ true → renamed (g .set) j ≡ true → helperOf (names g) i ≡ helperOf (names g) j
+      → i ≡ j
+  -- R10.7: the bytes may be written as DIMACS, with the variables that are reported
+  pub writable : wrongBytes (written g) (variablesOf (names g) (length (nodes g))) ≡ false
+
+-- R12.3: guards of a project of v options, converted one after the other: `taken` is handed over first, and then what was reported
+pub data Chain (v : ℕ) : ℕ → List ConvertAfter → Type 0 where
+  none : {taken : ℕ} → Chain v taken []
+  next : {taken : ℕ} {c : ConvertAfter} {cs : List ConvertAfter} → afterGuard c .options ≡ v → afterGuard c .taken ≡ taken
+      → afterSeen c .returned ≡ 0 → Chain v (first (afterSeen c)) cs → Chain v taken (c ∷ cs)
+
+abbrev pub allClauses : List Guard → List Clause
+allClauses [] = []
+allClauses (g ∷ gs) = decoded g ++ allClauses gs
+
+-- R12.8 to R12.10: each guard by itself, each helper that of one node of one guard, all clauses together meaning all guards together
+pub record Together (v : ℕ) (gs : List Guard) : Type 0 where
+  pub each : Every Means gs
+  pub one : (k l i j : ℕ) → renamed (guardIn gs k .set) i ≡ true → renamed (guardIn gs l .set) j ≡ true
+      → helperOf (names (guardIn gs k)) i ≡ helperOf (names (guardIn gs l)) j → (k ≡ l) × (i ≡ j)
+  pub sound : (ρ : ℕ → Bool) → T (satisfies ρ (allClauses gs)) → Every (λ g. T (formulaTrue ρ (nodes g))) gs
+  pub complete : (ρ : ℕ → Bool) → Every (λ g. T (formulaTrue ρ (nodes g))) gs
+      → (τ : ℕ → Bool) × Every (λ g. Extends v (names g) (nodes g) ρ τ) gs × T (satisfies τ (allClauses gs))
+
+pub record Demand3 : Type 0 where
+  -- R15.7, R15.8: two allowances for one table, and the clause total that measuring tells under the set of zeros
+  pub allowances : (c d : Choose) (m : Measure) → chooseGuard c ≡ chooseGuard d → allowance c ≤ allowance d
+      → measureGuard m .table ≡ chooseGuard c .table → measureGuard m .options ≡ chooseGuard c .options
+      → measureGuard m .set ≡ replicate (length (nodes (chooseGuard c))) 0
+      → chooseSeen c .returned ≡ 0 → chooseSeen d .returned ≡ 0 → measureSeen m .returned ≡ 0
+      → ((i : ℕ) → getD (chooseSeen c .after) i 0 ≡ 1 → getD (chooseSeen d .after) i 0 ≡ 1)
+      × (second (chooseSeen d) ≤ second (chooseSeen c)) × (second (chooseSeen c) ≤ first (measureSeen m))
+  pub convert : (c : Convert) → convertSeen c .returned ≡ 0 → Means (convertGuard c)
+  pub convertAfter : (v : ℕ) (cs : List ConvertAfter) → Chain v v cs → Together v (guards cs)
+  -- R12.7: with the options taken and nothing else, it is `simbolufa_convert`
+  pub same : (c : Convert) (d : ConvertAfter) → convertGuard c ≡ afterGuard d → convertSeen c .before ≡ afterSeen d .before
+      → convertSeen c .part ≡ afterSeen d .part → convertSeen c ≡ afterSeen d
