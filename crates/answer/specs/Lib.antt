@@ -1,3 +1,2 @@
 -- What an answer stands for.
-pub mod Numbers
-pub mod Part
+pub mod Answers

@@ -6,8 +6,7 @@ ghost use lib.Dec.{eqb};
 ghost use lib.ListN.{length};
 ghost use Rattle.laws.specs.Lists.{splice};
 ghost use Rattle.laws.specs.Numbers.{cap, little};
-ghost use Rattle.answer.specs.Numbers.{refused, toldOf, refuses};
-ghost use Rattle.answer.specs.Part.{mostShown, Given};
+ghost use Rattle.answer.specs.Answers.{refused, toldOf, refuses, mostShown, Given};
 
 pub enum Answer {
     // No refusal. The two numbers are variables or picks, and clauses or total; of a bare check both are 0.

@@ -9,14 +9,21 @@ use native.Mathlib.Omega.{arith}
 use lib.ListN.{length, set, replicate}
 use borrow.Author.Tests.{lt-ltb}
 use Rattle.answer.specs.declared.Answer.the-variants.{Accepted}
-use Rattle.formula.specs.Sets.{renamed, setChecked}
+use Rattle.formula.specs.Checks.{renamed, setChecked}
 use Rattle.formula.specs.declared.node.Node.{Node}
-use Rattle.clausal.specs.Choosing.{Choice, totalUnder, visit, visitsFrom, nothing, choose}
-use Rattle.clausal.specs.Renamings.{Renaming, renaming, under}
+use Rattle.clausal.specs.Totals.{Choice, totalUnder, visit, visitsFrom, nothing, choose}
+use Rattle.clausal.specs.Clauses.{Renaming, renaming, under}
 use Rattle.clausal.proofs.Renamed.{renamed-set-kept}
-use Rattle.choose.specs.Compared.{Compared}
 use Rattle.choose.proofs.Laws.Chosen.{Visited, enters, stays, visited, picks-most, chosen-right}
 use Rattle.clausal.proofs.Options.{totals-options}
+
+-- choosing under a and under b. What is said of b alone holds of a too: compare a with itself
+pub record Compared (u : Renaming) (ns : List Node) (a b : ℕ) : Type 0 where
+  pub more-nodes : (i : ℕ) → renamed (choose a u ns .chosen) i ≡ true → renamed (choose b u ns .chosen) i ≡ true
+  pub lower-total : totalUnder u ns (choose b u ns .chosen) ≤ totalUnder u ns (choose a u ns .chosen)
+  pub not-above-unrenamed : totalUnder u ns (choose b u ns .chosen) ≤ totalUnder u ns (replicate (length ns) 0)
+  pub within-allowance : choose b u ns .picks ≤ b
+  pub right-set : setChecked ns (choose b u ns .chosen) ≡ Accepted 0 0
 
 module _ (u : Renaming) (ns : List Node) where
   -- every node of c is in d, and each node of d that is not in c has lowered the total by one at least

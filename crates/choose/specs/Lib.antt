@@ -1,4 +1,2 @@
--- What choosing answers, what two allowances promise, and what the inner contracts cite.
-pub mod Chosen
-pub mod Compared
+-- What the inner contracts cite.
 pub mod Inner

@@ -5,12 +5,11 @@ ghost use mathlib.Core.Path.{_≡_};
 ghost use Prim.Native.Nat.{_<_};
 ghost use lib.Dec.{ltb};
 ghost use lib.ListN.{length, replicate};
-ghost use Rattle.formula.specs.Limits.{mostNodes};
-ghost use Rattle.formula.specs.Nodes.{nodesOf};
-ghost use Rattle.clausal.specs.Choosing.{choose};
-ghost use Rattle.clausal.specs.Renamings.{renaming};
+ghost use Rattle.formula.specs.Tables.{mostNodes, nodesOf};
+ghost use Rattle.clausal.specs.Totals.{choose};
+ghost use Rattle.clausal.specs.Clauses.{renaming};
 ghost use Rattle.totals.specs.Inner.Columns.{cell};
-ghost use Rattle.choose.specs.Chosen.{told, chosenUnder, chosenBy};
+ghost use Rattle.clausal.specs.Calls.{told, chosenUnder, chosenBy};
 ghost use Rattle.choose.specs.Inner.Visits.{Choosable, Passable, Visitable, Attempted, Visited};
 use answer::Answer;
 use answer::is_refusal;
@@ -51,7 +50,8 @@ fn attempt(
     literals: &mut [[u32; 1024]; 2],
 ) -> Picked
     requires { ⌜ Visitable (now table) (now marks) i (picked .picks) (picked .total .n) (now set) (now clauses) (now literals) ⌝ }
-    ensures { λ r. ⌜ Attempted (nodesOf (now (table .entry))) i (record { picks = picked .picks; chosen = now (set .entry) }) (record { picks = r .picks; chosen = now (set .exit) }) (r .total .n) (now (clauses .exit)) (now (literals .exit)) ⌝ }
+    ensures { λ r. ⌜ Attempted (nodesOf (now (table .entry))) i (record { picks = picked .picks; chosen = now (set .entry) })
+        (record { picks = r .picks; chosen = now (set .exit) }) (r .total .n) (now (clauses .exit)) (now (literals .exit)) ⌝ }
 {
     let picks = picked.picks;
     let before = picked.total;
@@ -78,7 +78,8 @@ fn visit(
     literals: &mut [[u32; 1024]; 2],
 ) -> Picked
     requires { ⌜ Visitable (now table) (now marks) i (picked .picks) (picked .total .n) (now set) (now clauses) (now literals) ⌝ }
-    ensures { λ r. ⌜ Visited allowance (nodesOf (now (table .entry))) i (record { picks = picked .picks; chosen = now (set .entry) }) (record { picks = r .picks; chosen = now (set .exit) }) (r .total .n) (now (clauses .exit)) (now (literals .exit)) ⌝ }
+    ensures { λ r. ⌜ Visited allowance (nodesOf (now (table .entry))) i (record { picks = picked .picks; chosen = now (set .entry) })
+        (record { picks = r .picks; chosen = now (set .exit) }) (r .total .n) (now (clauses .exit)) (now (literals .exit)) ⌝ }
 {
     if picked.picks >= allowance {
         return picked;
@@ -106,7 +107,8 @@ fn clear(set: &mut [u8])
 // The pass over all nodes, from the empty set.
 fn pass(table: &[u8], marks: &[u8; 1024], allowance: u32, set: &mut [u8]) -> Picked
     requires { ⌜ Passable (now table) (now marks) (now set) ⌝ }
-    ensures { λ r. ⌜ record { answer = Answer.Accepted (r .picks) (r .total .n); output = now (set .exit) } ≡ told (renaming 0 []) (nodesOf (now (table .entry))) (choose allowance (renaming 0 []) (nodesOf (now (table .entry)))) ⌝ }
+    ensures { λ r. ⌜ record { answer = Answer.Accepted (r .picks) (r .total .n); output = now (set .exit) } ≡ told (renaming 0 [])
+        (nodesOf (now (table .entry))) (choose allowance (renaming 0 []) (nodesOf (now (table .entry)))) ⌝ }
 {
     let mut clauses = [[0u16; MOST_NODES]; 2];
     let mut literals = [[0u32; MOST_NODES]; 2];
@@ -135,7 +137,8 @@ fn pass(table: &[u8], marks: &[u8; 1024], allowance: u32, set: &mut [u8]) -> Pic
 // Chooses for a table that is right.
 fn choose_under(table: &[u8], allowance: u32, set: &mut [u8]) -> Answer
     requires { ⌜ Choosable (now table) ⌝ }
-    ensures { λ r. ⌜ record { answer = r; output = now (set .exit) } ≡ chosenUnder 0 (nodesOf (now (table .entry))) allowance (now (set .entry)) ⌝ }
+    ensures { λ r. ⌜ record { answer = r; output = now (set .exit) } ≡ chosenUnder 0 (nodesOf (now (table .entry))) allowance
+        (now (set .entry)) ⌝ }
 {
     let count = table.len() / NODE_BYTES;
     if set.len() != count {
@@ -153,7 +156,8 @@ fn choose_under(table: &[u8], allowance: u32, set: &mut [u8]) -> Answer
 
 // Checks a table, and writes the set of nodes to rename under an allowance: picks and final total are reported.
 pub fn choose(table: &[u8], options: u32, allowance: u32, set: &mut [u8]) -> Answer
-    ensures { λ r. ⌜ record { answer = r; output = now (set .exit) } ≡ chosenBy (now (table .entry)) options allowance (now (set .entry)) ⌝ }
+    ensures { λ r. ⌜ record { answer = r; output = now (set .exit) } ≡ chosenBy (now (table .entry)) options allowance
+        (now (set .entry)) ⌝ }
 {
     let checked = formula::table::check(table, options);
     if is_refusal(checked) {

@@ -12,8 +12,7 @@ use borrow.Author.Tests.{eqb-true, eqb-false, eq-eqb, ne-eqb}
 use Rattle.laws.specs.Lists.{splice}
 use Rattle.laws.specs.Numbers.{little, littleAt}
 use Rattle.laws.proofs.Bytes.{littleAt-little}
-use Rattle.answer.specs.Numbers.{toldOf, refuses, after}
-use Rattle.answer.specs.Part.{bytesOf, Wrote, stored, Left, leaves}
+use Rattle.answer.specs.Answers.{toldOf, refuses, after, bytesOf, Wrote, stored, Left, leaves}
 use Rattle.answer.specs.declared.Answer.{Answer}
 use Rattle.answer.specs.declared.Answer.the-variants.{Accepted}
 use Rattle.answer.proofs.Laws.Order.{Kept, accepted-stored}

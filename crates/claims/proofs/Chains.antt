@@ -10,10 +10,11 @@ use lib.ListN.{length}
 use borrow.Author.Tests.{lt-ltb, le-ltb}
 use Rattle.laws.specs.Lists.{Every, none, more}
 use Rattle.laws.proofs.Every.{and-both, and-left, and-right}
-use Rattle.formula.specs.Sets.{renamed}
+use Rattle.formula.specs.Checks.{renamed}
 use Rattle.formula.specs.Truths.{formulaTrue}
-use Rattle.clausal.specs.Renamings.{helperOf, variablesOf}
-use Rattle.clausal.specs.Satisfies.{satisfies, Extends, extended}
+use Rattle.clausal.specs.Clauses.{helperOf, variablesOf}
+use Rattle.clausal.specs.Meanings.{satisfies, Extends}
+use Rattle.clausal.specs.Inner.Extended.{extended}
 use Rattle.clausal.proofs.Extended.{extended-option, extended-helper}
 use Rattle.clausal.proofs.Helpers.{helper-above}
 use Rattle.clausal.proofs.Truths.{satisfies-append}
@@ -125,7 +126,8 @@ module _ (ρ : ℕ → Bool) where
   all-complete (guard {g = g} {gs = gs} o l m h f) τ (more e es) (more t ts) =
       let own : T (satisfies τ (decoded g)) =
       m .complete ρ τ (subst⁻¹ (λ (v : ℕ). Extends v (names g) (nodes g) ρ τ) o e) t in
-      subst⁻¹ T (satisfies-append τ (decoded g) (allClauses gs)) (and-both (satisfies τ (decoded g)) (satisfies τ (allClauses gs)) own (all-complete f τ es ts))
+      subst⁻¹ T (satisfies-append τ (decoded g) (allClauses gs))
+      (and-both (satisfies τ (decoded g)) (satisfies τ (allClauses gs)) own (all-complete f τ es ts))
 
 pub together : {v : ℕ} {gs : List Guard} → Follows v v gs → Together v gs
 together f = record {

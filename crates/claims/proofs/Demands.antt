@@ -8,32 +8,25 @@ use native.Mathlib.Omega.{arith}
 use lib.ListN.{length, getD, take, drop, replicate}
 use lib.Seq.{take-append-seam}
 use borrow.Author.Tests.{eq-eqb, eqb-true, le-ltb}
-use Rattle.answer.specs.Numbers.{toldOf, refuses}
-use Rattle.answer.specs.Part.{Wrote, only, Left, leaves}
+use Rattle.answer.specs.Answers.{toldOf, refuses, Wrote, only, Left, leaves}
 use Rattle.answer.specs.declared.Answer.the-variants.{Accepted}
 use Rattle.formula.specs.Checks.{checked}
-use Rattle.formula.specs.Limits.{mostOptions}
-use Rattle.formula.specs.Nodes.{nodesOf}
+use Rattle.formula.specs.Tables.{mostOptions, nodesOf}
 use Rattle.formula.proofs.Laws.WellFormed.{checked-accepted}
-use Rattle.clausal.specs.Choosing.{choose, totalUnder}
-use Rattle.clausal.specs.Renamings.{renaming, variablesOf}
-use Rattle.clausal.specs.Totals.{totals}
+use Rattle.clausal.specs.Totals.{choose, totalUnder, totals}
+use Rattle.clausal.specs.Clauses.{renaming, variablesOf}
 use Rattle.clausal.proofs.Names.{helper-range}
 use Rattle.clausal.proofs.Totals.{clauses-read}
-use Rattle.clausebytes.specs.Right.{mostVariables, wrongBytes}
-use Rattle.clausebytes.specs.Words.{clausesOf}
-use Rattle.totals.specs.Measured.{measured}
-use Rattle.choose.specs.Chosen.{chosenBy}
+use Rattle.clausebytes.specs.Words.{mostVariables, wrongBytes, clausesOf}
+use Rattle.clausal.specs.Calls.{measured, chosenBy, converted, convertedAfter}
 use Rattle.choose.proofs.Allowances.{compared}
-use Rattle.convert.specs.Converted.{converted, convertedAfter}
 use Rattle.convert.proofs.Laws.Checked.{few-options}
 use Rattle.dimacs.specs.Calls.{writeCall, readCall, textLength}
-use Rattle.dimacs.specs.Written.{writtenText}
+use Rattle.dimacs.specs.Texts.{writtenText}
 use Rattle.dimacs.proofs.RoundTrip.{reads-what-writes}
-use Rattle.claims.specs.Calls.{first, second, Guard, nodes, names, guards, Check, checkSeen, checkGuard}
-use Rattle.claims.specs.Calls.{Measure, measureSeen, measureGuard, Choose, chooseSeen, chooseGuard, allowance}
-use Rattle.claims.specs.Calls.{Convert, convertSeen, convertGuard, ConvertAfter, afterSeen, afterGuard}
-use Rattle.claims.specs.Calls.{Write, writeSeen, clauseBytes, declared, Read, readSeen, textOf}
+use Rattle.claims.specs.Calls.{first, second, Guard, nodes, names, guards, Check, checkSeen, checkGuard, Measure, measureSeen}
+use Rattle.claims.specs.Calls.{measureGuard, Choose, chooseSeen, chooseGuard, allowance, Convert, convertSeen, convertGuard}
+use Rattle.claims.specs.Calls.{ConvertAfter, afterSeen, afterGuard, Write, writeSeen, clauseBytes, declared, Read, readSeen, textOf}
 use Rattle.claims.specs.Calls.{over}
 use Rattle.claims.specs.Claims.{Demand1, Demand2, Demand3, Chain, none, next}
 use Rattle.claims.proofs.Answered.{answers, Zero, zero, gives, first-told, second-told, stored-room}
@@ -134,7 +127,8 @@ module _ (w : Write) (r : Read) (z : writeSeen w .returned ≡ 0)
       let zeroed : readSeen r .returned ≡ 0 = own .0 ∙ ap (λ (x : Wrote (List ℕ)). toldOf (x .answer) .number) read-again in
       let given = gives (readSeen r) (readWrote r) (r .promise) (declared w) answered (over bytes (readSeen r .before))
       (zero (readSeen r) (readWrote r) (r .promise) zeroed) read-again in
-      let written = gives (writeSeen w) (writeWrote w) (w .promise .0) (declared w) answered (over text (writeSeen w .before)) done (wrote .1) in
+      let written = gives (writeSeen w) (writeWrote w) (w .promise .0) (declared w) answered (over text (writeSeen w .before)) done
+      (wrote .1) in
       (zeroed, given .values ∙ sym (written .values), given .outputs)
 
 pub demand2 : Demand2

@@ -10,27 +10,25 @@ use lib.ListN.{length}
 use borrow.Author.Tests.{ltb-true}
 use Rattle.laws.specs.Lists.{Every}
 use Rattle.laws.specs.Lists as lists
-use Rattle.answer.specs.Numbers.{refuses}
-use Rattle.answer.specs.Part.{Wrote}
+use Rattle.answer.specs.Answers.{refuses, Wrote}
 use Rattle.answer.specs.declared.Answer.the-variants.{Accepted, Clauses, Literals}
 use Rattle.formula.specs.declared.node.Node.{Node}
 use Rattle.formula.proofs.Laws.Tables.{length-nodesOf}
 use Rattle.formula.proofs.Laws.WellFormed.{length-right}
-use Rattle.clausal.specs.Literals.{Clause}
-use Rattle.clausal.specs.Origins.{Origin, Named}
+use Rattle.clausal.specs.Clauses.{Clause, Renaming, variablesOf}
+use Rattle.clausal.specs.Meanings.{Origin, Named, satisfies}
+use Rattle.clausal.specs.Inner.Extended.{extended}
 use Rattle.clausal.specs.Output.{outputOf}
-use Rattle.clausal.specs.Renamings.{Renaming, variablesOf}
-use Rattle.clausal.specs.Satisfies.{satisfies, extended}
 use Rattle.clausal.specs.Totals.{Size, sizeOf, clauseCeiling, literalCeiling}
 use Rattle.clausal.proofs.Extended.{extends}
 use Rattle.clausal.proofs.Helpers.{helper-above, helper-same}
 use Rattle.clausal.proofs.Meaning.{sound, complete-by}
 use Rattle.clausal.proofs.Names.{output-named, option-range, variable-range}
 use Rattle.clausal.proofs.Truths.{truth-options}
-use Rattle.clausebytes.specs.Right as right
-use Rattle.clausebytes.specs.Right.{Within, Right}
+use Rattle.clausebytes.specs.Words as right
+use Rattle.clausebytes.specs.Words.{Within, Right}
 use Rattle.clausebytes.proofs.Encoded.{clauses-of-bytes, not-wrong-of-right}
-use Rattle.convert.specs.Converted.{ceilings}
+use Rattle.clausal.specs.Calls.{ceilings}
 use Rattle.convert.proofs.Laws.Helpers.{below-le}
 use Rattle.claims.specs.Calls.{Guard, nodes, names}
 use Rattle.claims.specs.Claims.{Means, decoded}

@@ -8,32 +8,23 @@ use Prim.Native.Nat.{ℕ, _≤_}
 use native.Mathlib.Omega.{arith}
 use lib.Dec.{eqb}
 use lib.ListN.{length}
-use Rattle.answer.specs.Numbers.{refuses}
-use Rattle.answer.specs.Part.{Wrote, afterwards, stored}
+use Rattle.answer.specs.Answers.{refuses, Wrote, afterwards, stored}
 use Rattle.answer.specs.declared.Answer.the-variants as answer
 use Rattle.answer.specs.declared.Answer.the-variants.{Accepted, ClauseBytes}
 use Rattle.answer.proofs.Laws.Order.{Kept, kept-afterwards, kept-stored, accepted-afterwards}
-use Rattle.formula.specs.Checks.{checked}
-use Rattle.formula.specs.Limits.{mostOptions}
-use Rattle.formula.specs.Nodes.{nodesOf}
-use Rattle.formula.specs.Sets.{setChecked}
+use Rattle.formula.specs.Checks.{checked, setChecked}
+use Rattle.formula.specs.Tables.{mostOptions, nodesOf}
 use Rattle.formula.specs.declared.node.Node.{Node}
 use Rattle.formula.proofs.Laws.Sets.{set-accepted}
 use Rattle.formula.proofs.Laws.WellFormed.{checked-accepted}
-use Rattle.clausal.specs.Choosing.{Choice, choose}
-use Rattle.clausal.specs.Literals.{Clause, clausesBytes}
+use Rattle.clausal.specs.Totals.{Choice, choose, totals, sizeOf}
+use Rattle.clausal.specs.Clauses.{Clause, clausesBytes, Renaming, renaming, variablesOf}
 use Rattle.clausal.specs.Output.{outputOf}
-use Rattle.clausal.specs.Renamings.{Renaming, renaming, variablesOf}
-use Rattle.clausal.specs.Totals.{totals, sizeOf}
-use Rattle.clausebytes.specs.Right.{wrongBytes}
-use Rattle.clausebytes.specs.Words.{clausesOf}
-use Rattle.totals.specs.Measured.{measured}
-use Rattle.choose.specs.Chosen.{told, chosenUnder, chosenBy}
-use Rattle.convert.specs.Converted.{ceilings, convertedUnder, converted, takenChecked, convertedAfter}
+use Rattle.clausebytes.specs.Words.{wrongBytes, clausesOf}
+use Rattle.clausal.specs.Calls.{measured, told, chosenUnder, chosenBy, ceilings, convertedUnder, converted, takenChecked, convertedAfter}
 use Rattle.convert.proofs.Laws.Checked.{few-options, taken-right}
 use Rattle.dimacs.specs.Calls.{readCall, writeCall}
-use Rattle.dimacs.specs.Grammar.{Text}
-use Rattle.dimacs.specs.Written.{writtenText}
+use Rattle.dimacs.specs.Texts.{Text, writtenText}
 use Rattle.dimacs.proofs.Reading as dimacs
 use Rattle.dimacs.proofs.Reading.{acceptsText, accepts-exactly, reads, placeOf, place-longest}
 use Rattle.claims.specs.Calls.{Guard, nodes, names, over}

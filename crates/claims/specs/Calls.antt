@@ -8,9 +8,9 @@ use denote.Ref.{now}
 use denote.Triple.Clauses.{AtExit}
 use borrow.Fn.Kinds.{PK, RK, Dens, Out, endedOf, resT}
 use Rattle.laws.specs.Numbers.{littleAt}
-use Rattle.formula.specs.Nodes.{nodesOf}
+use Rattle.formula.specs.Tables.{nodesOf}
 use Rattle.formula.specs.declared.node.Node.{Node}
-use Rattle.clausal.specs.Renamings.{Renaming, renaming}
+use Rattle.clausal.specs.Clauses.{Renaming, renaming}
 use Rattle.host.proofs.simbolufa_check.Kinds as check-kinds
 use Rattle.host.proofs.simbolufa_check.Reads as check
 use Rattle.host.proofs.simbolufa_measure.Kinds as measure-kinds

@@ -8,30 +8,21 @@ use Prim.Native.Nat.{ℕ, _≤_, _<_}
 use lib.Dec.{T}
 use lib.ListN.{length, getD, take, replicate}
 use Rattle.laws.specs.Lists.{Every}
-use Rattle.answer.specs.Numbers.{toldOf}
-use Rattle.answer.specs.Part.{bytesOf}
+use Rattle.answer.specs.Answers.{toldOf, bytesOf}
 use Rattle.answer.specs.declared.Answer.{Answer}
 use Rattle.answer.specs.declared.Answer.the-variants.{Accepted}
-use Rattle.formula.specs.Checks.{checked}
-use Rattle.formula.specs.Nodes.{nodeIn}
-use Rattle.formula.specs.Sets.{renamed}
+use Rattle.formula.specs.Checks.{checked, renamed}
+use Rattle.formula.specs.Tables.{nodeIn}
 use Rattle.formula.specs.Truths.{formulaTrue}
 use Rattle.formula.specs.declared.node.Kind.the-variants.{Symbol}
-use Rattle.clausal.specs.Choosing.{Choice, choose, totalUnder}
-use Rattle.clausal.specs.Literals.{Clause, clausesBytes}
-use Rattle.clausal.specs.Origins.{Named}
+use Rattle.clausal.specs.Totals.{Choice, choose, totalUnder, totals}
+use Rattle.clausal.specs.Clauses.{Clause, clausesBytes, helperOf, variablesOf}
+use Rattle.clausal.specs.Meanings.{Named, satisfies, Extends}
 use Rattle.clausal.specs.Output.{outputOf}
-use Rattle.clausal.specs.Renamings.{helperOf, variablesOf}
-use Rattle.clausal.specs.Satisfies.{satisfies, Extends}
-use Rattle.clausal.specs.Totals.{totals}
-use Rattle.clausebytes.specs.Right.{wrongBytes}
-use Rattle.clausebytes.specs.Words.{clausesOf}
-use Rattle.totals.specs.Measured.{measured}
-use Rattle.choose.specs.Chosen.{chosenBy}
-use Rattle.convert.specs.Converted.{converted, convertedAfter}
+use Rattle.clausebytes.specs.Words.{wrongBytes, clausesOf}
+use Rattle.clausal.specs.Calls.{measured, chosenBy, converted, convertedAfter}
 use Rattle.dimacs.specs.Calls.{writeCall, readCall, textLength}
-use Rattle.dimacs.specs.Grammar.{Text}
-use Rattle.dimacs.specs.Written.{writtenText}
+use Rattle.dimacs.specs.Texts.{Text, writtenText}
 use Rattle.claims.specs.Calls.{Seen, first, second, Guard, nodes, names, Check, checkSeen, checkGuard, Measure, measureSeen}
 use Rattle.claims.specs.Calls.{measureGuard, Choose, chooseSeen, chooseGuard, allowance, Convert, convertSeen, convertGuard}
 use Rattle.claims.specs.Calls.{ConvertAfter, afterSeen, afterGuard, guards, guardIn, Write, writeSeen, clauseBytes, declared, Read}

@@ -11,9 +11,8 @@ use borrow.Author.Tests.{lt-ltb, le-ltb}
 use Rattle.laws.specs.Numbers.{cap}
 use Rattle.laws.proofs.Caps.{cap-add, cap-scale, cap-mul}
 use Rattle.clausal.specs.Output.{wholeOf}
-use Rattle.clausal.specs.Rows.{rowOf}
+use Rattle.clausal.specs.Clauses.{rowOf, Renaming}
 use Rattle.clausal.specs.Totals.{Size, sizes, readAt, cappedAt}
-use Rattle.clausal.specs.Renamings.{Renaming}
 use Rattle.clausal.proofs.Related.{Keeps, related-row-by, related-whole}
 use Rattle.formula.specs.declared.node.Node.{Node}
 

@@ -5,15 +5,15 @@ use mathlib.Core.Path.{_≡_, refl, sym, ap, _∙_}
 use mathlib.Core.Bool.{Bool, true, false}
 use mathlib.Core.List.{List, [], _∷_, _++_, map}
 use Prim.Native.Nat.{ℕ, zero, suc, _+_, _*_, _-_, _/_, _%_, _≤_, _<_}
-use native.Mathlib.Nat.{div-eq-of-lt, mod-eq-of-lt, add-div-left, add-mod-left, suc-mul, zero-mul, mul-zero, not-suc-le-zero, mod-lt, div-lt-iff-lt-mul}
+use native.Mathlib.Nat.{div-eq-of-lt, mod-eq-of-lt, add-div-left, add-mod-left, suc-mul, zero-mul, mul-zero, not-suc-le-zero, mod-lt}
+use native.Mathlib.Nat.{div-lt-iff-lt-mul}
 use native.Mathlib.Numerals.{add-one}
 use native.Mathlib.Omega.{arith}
 use lib.Dec.{ltb}
 use lib.ListN.{length, getD, length-map, List·getD-append}
 use lib.Seq.{getD-append-add}
 use borrow.Author.Tests.{ltb-true, ltb-false}
-use Rattle.clausal.specs.Algebra.{joinAll}
-use Rattle.clausal.specs.Literals.{Clause}
+use Rattle.clausal.specs.Clauses.{joinAll, Clause}
 
 -- a list followed by another
 pub clause-left : (cs ds : List Clause) (k : ℕ) → k < length cs → getD (cs ++ ds) k [] ≡ getD cs k []

@@ -8,12 +8,10 @@ use mathlib.Core.List.{List}
 use Prim.Native.Nat.{ℕ, _+_, _*_, _<_}
 use lib.Dec.{eqb}
 use lib.ListN.{length}
-use Rattle.formula.specs.Nodes.{nodeIn}
+use Rattle.formula.specs.Tables.{nodeIn}
 use Rattle.formula.specs.Inner.Right.{WellFormed}
-use Rattle.formula.specs.Sets.{renamed}
-use Rattle.clausal.specs.Algebra.{Algebra, Row, unitRow, clauses}
-use Rattle.clausal.specs.Renamings.{Renaming, nameOf}
-use Rattle.clausal.specs.Rows.{rowOf}
+use Rattle.formula.specs.Checks.{renamed}
+use Rattle.clausal.specs.Clauses.{Algebra, Row, unitRow, clauses, Renaming, nameOf, rowOf}
 use Rattle.clausal.specs.Totals.{Size, sizes}
 use Rattle.clausal.proofs.Related.{Keeps, Under, both, keeps-of-map, under-by}
 use Rattle.clausal.proofs.Helpers.{name-plain}

@@ -5,10 +5,11 @@ use Prim.Native.Nat.{ℕ}
 use lib.Dec.{T}
 use Rattle.laws.specs.Lists.{firstFrom, upTo}
 use Rattle.formula.specs.Marks.{downFrom}
-use Rattle.clausal.specs.Choosing.{visitsFrom}
-use Rattle.clausal.specs.Renamings.{renamedBelow}
+use Rattle.clausal.specs.Totals.{visitsFrom}
+use Rattle.clausal.specs.Clauses.{renamedBelow}
 use Rattle.clausal.specs.Output.{definitions}
-use Rattle.clausal.proofs.Notation.{nothing, renamed, allowed, Example, all, holds, p, n, false-node, true-node, symbol, not-of, and-of, or-of, implies-of, equivalent-of}
+use Rattle.clausal.proofs.Notation.{nothing, renamed, allowed, Example, all, holds, p, n, false-node, true-node, symbol, not-of}
+use Rattle.clausal.proofs.Notation.{and-of, or-of, implies-of, equivalent-of}
 
 -- E = s1 equivalent s2, root E equivalent E, shared
 abbrev seven : List ℕ
@@ -23,6 +24,12 @@ abbrev nine : List ℕ
 nine =
     symbol 1 ++ symbol 2 ++ symbol 3 ++ symbol 4 ++ symbol 5 ++ symbol 6
     ++ and-of 0 1 ++ and-of 2 3 ++ or-of 6 7 ++ and-of 4 5 ++ or-of 8 9
+
+-- 9 with (s7 and s8) behind it in the same way: of four joined lists two are worth renaming
+abbrev ten : List ℕ
+ten =
+    symbol 1 ++ symbol 2 ++ symbol 3 ++ symbol 4 ++ symbol 5 ++ symbol 6 ++ symbol 7 ++ symbol 8
+    ++ and-of 0 1 ++ and-of 2 3 ++ or-of 8 9 ++ and-of 4 5 ++ or-of 10 11 ++ and-of 6 7 ++ or-of 12 13
 
 abbrev pub examples : List Example
 examples =
@@ -221,6 +228,21 @@ examples =
       clauses = 6;
       literals = 14;
       bytes = 80;
+      first = [];
+    }
+    -- two picks: after the highest node that may be renamed others are tried
+    ∷ record {
+      table = ten;
+      options = 8;
+      given = allowed 15;
+      set = 0 ∷ 0 ∷ 0 ∷ 0 ∷ 0 ∷ 0 ∷ 0 ∷ 0 ∷ 0 ∷ 0 ∷ 0 ∷ 1 ∷ 0 ∷ 1 ∷ 0 ∷ [];
+      variables = 10;
+      output =
+          (p 1 ∷ p 3 ∷ p 9 ∷ p 10 ∷ []) ∷ (p 1 ∷ p 4 ∷ p 9 ∷ p 10 ∷ []) ∷ (p 2 ∷ p 3 ∷ p 9 ∷ p 10 ∷ []) ∷
+          (p 2 ∷ p 4 ∷ p 9 ∷ p 10 ∷ []) ∷ (n 9 ∷ p 5 ∷ []) ∷ (n 9 ∷ p 6 ∷ []) ∷ (n 10 ∷ p 7 ∷ []) ∷ (n 10 ∷ p 8 ∷ []) ∷ [];
+      clauses = 8;
+      literals = 24;
+      bytes = 128;
       first = [];
     }
     ∷ []

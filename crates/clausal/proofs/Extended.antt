@@ -10,9 +10,10 @@ use lib.Dec.{eqb}
 use lib.ListN.{length}
 use borrow.Author.Tests.{eqb-true, eqb-false, eq-eqb}
 use Rattle.formula.specs.Truths.{truthOf}
-use Rattle.formula.specs.Sets.{renamed}
-use Rattle.clausal.specs.Renamings.{helperOf, Renaming}
-use Rattle.clausal.specs.Satisfies.{withHelpers, extended, Extends}
+use Rattle.formula.specs.Checks.{renamed}
+use Rattle.clausal.specs.Clauses.{helperOf, Renaming}
+use Rattle.clausal.specs.Meanings.{Extends}
+use Rattle.clausal.specs.Inner.Extended.{withHelpers, extended}
 use Rattle.clausal.proofs.Helpers.{helper-above, helper-rising}
 use Rattle.formula.specs.declared.node.Node.{Node}
 

@@ -9,8 +9,8 @@ use native.Mathlib.Omega.{arith}
 use lib.Dec.{eqb, leb}
 use lib.ListN.{length, List·getD-eq-default}
 use borrow.Author.Tests.{ne-eqb, eqb-true, eqb-false, leb-true, leb-false}
-use Rattle.formula.specs.Sets.{renamed}
-use Rattle.clausal.specs.Renamings.{renamedBelow, helperOf, variablesOf, Renaming, nameOf}
+use Rattle.formula.specs.Checks.{renamed}
+use Rattle.clausal.specs.Clauses.{renamedBelow, helperOf, variablesOf, Renaming, nameOf}
 
 module _ (s : List ℕ) where
   -- a renamed node is in the set
@@ -94,7 +94,8 @@ module _ (u : Renaming) where
       go : (b : Bool) → renamed (u .set) n ≡ b → (c : Bool) → eqb x (helperOf u n) ≡ c → (x ≤ variablesOf u n → Helped (suc n) x)
           → Helped (suc n) x
       go false e c f ih =
-          let same : renamedBelow (u .set) (suc n) ≡ renamedBelow (u .set) n + 0 = ap (λ (b : Bool). renamedBelow (u .set) n + cond b 1 0) e in
+          let same : renamedBelow (u .set) (suc n) ≡ renamedBelow (u .set) n + 0 = ap
+          (λ (b : Bool). renamedBelow (u .set) n + cond b 1 0) e in
           ih (omega arith)
       go true e false f ih =
           let more : renamedBelow (u .set) (suc n) ≡ renamedBelow (u .set) n + 1 = below-renamed (u .set) n e in

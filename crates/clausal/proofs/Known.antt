@@ -9,8 +9,7 @@ use native.Mathlib.Omega.{arith}
 use lib.ListN.{List·getD-eq-default}
 use Rattle.answer.specs.declared.Answer.the-variants.{Accepted}
 use Rattle.formula.specs.Checks.{checked}
-use Rattle.formula.specs.Nodes.{nodeAt, nodeCount, nodesOf, nodeIn}
-use Rattle.formula.specs.Records.{known, faultOf}
+use Rattle.formula.specs.Tables.{nodeAt, nodeCount, nodesOf, nodeIn, known, faultOf}
 use Rattle.formula.proofs.Laws.Tables.{length-nodesOf, nodeIn-nodesOf}
 use Rattle.formula.proofs.Laws.WellFormed.{accepts}
 use Rattle.formula.specs.declared.node.Node.{Node}

@@ -10,21 +10,18 @@ use native.Mathlib.Omega.{arith}
 use lib.Dec.{T}
 use lib.ListN.{length}
 use Rattle.answer.specs.declared.Answer.the-variants.{Accepted}
-use Rattle.formula.specs.Checks.{checked}
+use Rattle.formula.specs.Checks.{checked, renamed}
 use Rattle.formula.specs.Marks.{toA, toB, markOf}
-use Rattle.formula.specs.Nodes.{nodesOf, nodeIn}
+use Rattle.formula.specs.Tables.{nodesOf, nodeIn, known}
 use Rattle.formula.specs.Paths.{has}
-use Rattle.formula.specs.Records.{known}
 use Rattle.formula.specs.Inner.Right.{WellFormed}
 use Rattle.formula.specs.Truths.{truthOf, formulaTrue}
-use Rattle.formula.specs.Sets.{renamed}
 use Rattle.formula.proofs.Laws.Polarity.{passed-a, passed-b, root-positive}
 use Rattle.formula.proofs.Laws.WellFormed.{accepted-well-formed}
-use Rattle.clausal.specs.Algebra.{Row}
-use Rattle.clausal.specs.Renamings.{helperOf, Renaming, nameOf}
+use Rattle.clausal.specs.Clauses.{Row, helperOf, Renaming, nameOf, rowOf}
 use Rattle.clausal.specs.Output.{outputOf}
-use Rattle.clausal.specs.Rows.{rowOf}
-use Rattle.clausal.specs.Satisfies.{satisfies, truths, extended, Extends}
+use Rattle.clausal.specs.Meanings.{satisfies, Extends}
+use Rattle.clausal.specs.Inner.Extended.{truths, extended}
 use Rattle.clausal.proofs.Extended.{extends}
 use Rattle.clausal.proofs.Halves.{Defines, AllTrue, whole-true}
 use Rattle.clausal.proofs.Known.{accepted-known}
@@ -138,7 +135,8 @@ module _ (ns : List Node) (u : Renaming) (ρ : ℕ → Bool)
       as-seen j l own = go (renamed (u .set) j) refl
         where
           go : (b : Bool) → renamed (u .set) j ≡ b → Under Gives (markOf ns j) (child ns u ρ j) (truth ns u ρ j)
-          go false e = subst⁻¹ (λ (x : Row Bool). Under Gives (markOf ns j) x (truth ns u ρ j)) (seen-plain (truths ρ) u j (row ns u ρ j) e) own
+          go false e = subst⁻¹ (λ (x : Row Bool). Under Gives (markOf ns j) x (truth ns u ρ j))
+              (seen-plain (truths ρ) u j (row ns u ρ j) e) own
           go true e =
               let d : Defines ρ u ns j = all .defines j l e in
               subst⁻¹ (λ (x : Row Bool). Under Gives (markOf ns j) x (truth ns u ρ j)) (seen-renamed (truths ρ) u j (row ns u ρ j) e)

@@ -15,14 +15,11 @@ use Rattle.answer.specs.declared.Answer.{Answer}
 use Rattle.answer.specs.declared.Answer.the-variants.{Accepted, Set}
 use Rattle.laws.specs.Lists.{Every, none, more}
 use Rattle.laws.proofs.Every.{every-append}
-use Rattle.formula.specs.Checks.{checked}
-use Rattle.formula.specs.Nodes.{nodesOf, nodeIn}
-use Rattle.formula.specs.Sets.{setChecked, renamed}
+use Rattle.formula.specs.Checks.{checked, setChecked, renamed}
+use Rattle.formula.specs.Tables.{nodesOf, nodeIn}
 use Rattle.formula.proofs.Laws.WellFormed.{accepted-well-formed}
-use Rattle.clausal.specs.Algebra.{Algebra, joinAll, clauses}
-use Rattle.clausal.specs.Renamings.{helperOf, variablesOf, Renaming}
-use Rattle.clausal.specs.Literals.{Literal, Clause}
-use Rattle.clausal.specs.Origins.{Origin, option, helper, Named}
+use Rattle.clausal.specs.Clauses.{Algebra, joinAll, clauses, helperOf, variablesOf, Renaming, Literal, Clause}
+use Rattle.clausal.specs.Meanings.{Origin, option, helper, Named}
 use Rattle.clausal.specs.Output.{outputOf}
 use Rattle.clausal.proofs.Related.{Keeps, related-whole}
 use Rattle.clausal.proofs.Helpers.{renamed-inside, helper-above, helper-most}

@@ -5,15 +5,12 @@ use mathlib.Core.List.{List, [], _∷_, _++_}
 use Prim.Native.Nat.{ℕ}
 use lib.Dec.{eqb}
 use lib.ListN.{length, take, replicate}
-use Rattle.answer.specs.Numbers.{toldOf}
-use Rattle.formula.specs.Checks.{checked}
-use Rattle.formula.specs.Nodes.{nodeRecord, nodesOf}
-use Rattle.formula.specs.Sets.{setChecked}
-use Rattle.clausal.specs.Choosing.{choose}
-use Rattle.clausal.specs.Renamings.{variablesOf, renaming}
-use Rattle.clausal.specs.Literals.{Literal, Clause, clausesBytes}
+use Rattle.answer.specs.Answers.{toldOf}
+use Rattle.formula.specs.Checks.{checked, setChecked}
+use Rattle.formula.specs.Tables.{nodeRecord, nodesOf}
+use Rattle.clausal.specs.Totals.{choose, Size, sizeOf, trueTotals, totals}
+use Rattle.clausal.specs.Clauses.{variablesOf, renaming, Literal, Clause, clausesBytes}
 use Rattle.clausal.specs.Output.{outputOf}
-use Rattle.clausal.specs.Totals.{Size, sizeOf, trueTotals, totals}
 use Rattle.answer.specs.declared.Answer.{Answer}
 use Rattle.formula.specs.declared.node.Node.{Node}
 

@@ -8,12 +8,10 @@ use lib.Dec.{eqb}
 use lib.ListN.{length, getD}
 use Rattle.laws.specs.Lists.{upTo}
 use Rattle.formula.specs.Marks.{markOf, halvesOf}
-use Rattle.formula.specs.Nodes.{nodeIn}
-use Rattle.formula.specs.Sets.{renamed}
-use Rattle.clausal.specs.Algebra.{Algebra, Row, unitRow, noRow, rowBy}
-use Rattle.clausal.specs.Renamings.{helperOf, Renaming, renaming, nameOf}
+use Rattle.formula.specs.Tables.{nodeIn}
+use Rattle.formula.specs.Checks.{renamed}
+use Rattle.clausal.specs.Clauses.{Algebra, Row, unitRow, noRow, rowBy, helperOf, Renaming, renaming, nameOf, seen, rowFrom, rowOf}
 use Rattle.clausal.specs.Output.{Part, downPart, upPart, definition, definitions, gather, wholeOf}
-use Rattle.clausal.specs.Rows.{seen, rowFrom, rowOf}
 use Rattle.clausal.specs.Totals.{totals, trueTotals, capped, sizes}
 use Rattle.clausal.proofs.Helpers.{helper-some}
 use Rattle.formula.specs.declared.node.Node.{Node}

@@ -10,11 +10,11 @@ use lib.Dec.{ltb}
 use lib.ListN.{length, getD, length-append}
 use borrow.Author.Tests.{ltb-true, ltb-false, lt-ltb, le-ltb}
 use Rattle.formula.specs.declared.node.Node.{Node}
-use Rattle.clausal.specs.Algebra.{clauses}
-use Rattle.clausal.specs.Literals.{Clause}
+use Rattle.clausal.specs.Clauses.{clauses}
+use Rattle.clausal.specs.Clauses.{Clause}
 use Rattle.clausal.specs.Output.{Part, partsOf, gather, outputOf}
-use Rattle.clausal.specs.Places.{Place, further, placeIn, startOf, contentsOf, countsOf, contentIn, Stands}
-use Rattle.clausal.specs.Renamings.{Renaming}
+use Rattle.clausal.specs.Inner.Places.{Place, further, placeIn, startOf, contentsOf, countsOf, contentIn, Stands}
+use Rattle.clausal.specs.Clauses.{Renaming}
 use Rattle.clausal.proofs.Clauses.{clause-left, clause-right}
 
 -- the output is the parts' clauses, one part after the other

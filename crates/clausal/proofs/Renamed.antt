@@ -10,8 +10,8 @@ use lib.Dec.{eqb}
 use lib.ListN.{length, set}
 use lib.Seq.{getD-set-same, getD-set-other}
 use borrow.Author.Tests.{eqb-true, eqb-false}
-use Rattle.formula.specs.Sets.{renamed}
-use Rattle.clausal.specs.Renamings.{renamedBelow}
+use Rattle.formula.specs.Checks.{renamed}
+use Rattle.clausal.specs.Clauses.{renamedBelow}
 use Rattle.clausal.proofs.Helpers.{renamed-inside}
 
 -- sets that agree on the nodes below n have as many of them

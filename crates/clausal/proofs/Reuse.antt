@@ -10,11 +10,9 @@ use lib.Dec.{eqb}
 use lib.ListN.{length, getD, set}
 use Rattle.laws.specs.Lists.{grow, upTo}
 use Rattle.formula.specs.Inner.Right.{Below}
-use Rattle.formula.specs.Nodes.{nodeIn}
-use Rattle.formula.specs.Sets.{renamed}
-use Rattle.clausal.specs.Algebra.{Algebra, Row, unitRow, noRow}
-use Rattle.clausal.specs.Renamings.{Renaming, renamedBelow, nameOf, under}
-use Rattle.clausal.specs.Rows.{rowFrom, rowOf}
+use Rattle.formula.specs.Tables.{nodeIn}
+use Rattle.formula.specs.Checks.{renamed}
+use Rattle.clausal.specs.Clauses.{Algebra, Row, unitRow, noRow, Renaming, renamedBelow, nameOf, under, rowFrom, rowOf}
 use Rattle.clausal.proofs.Renamed.{below-same, renamed-set-other}
 use Rattle.clausal.proofs.Rows.{rule-same, row-past, getD-rows}
 use Rattle.formula.specs.declared.node.Node.{Node}

@@ -4,13 +4,11 @@ use Rattle.laws.specs.Lists.{upTo}
 use Rattle.laws.proofs.Upward.{length-upTo, take-upTo, getD-upTo}
 use Rattle.formula.specs.Inner.Right.{Below}
 use Rattle.formula.specs.Marks.{unmarked, toA, toB, markIn, passOn}
-use Rattle.formula.specs.Nodes.{nodeIn}
+use Rattle.formula.specs.Tables.{nodeIn}
 use Rattle.formula.specs.Paths.{has}
-use Rattle.formula.specs.Sets.{renamed}
+use Rattle.formula.specs.Checks.{renamed}
 use Rattle.formula.proofs.Laws.Marks.{unmarked-has, Passed, passed}
-use Rattle.clausal.specs.Algebra.{Algebra, Row, unitRow, noRow, rowBy}
-use Rattle.clausal.specs.Rows.{seen, rowFrom, rowsOf, rowOf}
-use Rattle.clausal.specs.Renamings.{Renaming, helperOf, nameOf}
+use Rattle.clausal.specs.Clauses.{Algebra, Row, unitRow, noRow, rowBy, seen, rowFrom, rowsOf, rowOf, Renaming, helperOf, nameOf}
 use Rattle.clausal.proofs.Helpers.{helper-some, name-renamed, name-plain}
 use Rattle.clausal.proofs.Related.{Keeps, Under, both, under-by}
 use mathlib.Core.Path.{_≡_, refl, sym, ap, _∙_, subst}

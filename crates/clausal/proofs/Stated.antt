@@ -9,11 +9,10 @@ use Prim.Native.Nat.{ℕ, zero, suc, _+_, _*_}
 use lib.Dec.{T, eqb}
 use lib.ListN.{length}
 use Rattle.laws.specs.Lists.{firstFrom, upTo}
-use Rattle.formula.specs.Checks.{checked}
+use Rattle.formula.specs.Checks.{checked, setChecked}
 use Rattle.formula.specs.Marks.{downFrom}
-use Rattle.formula.specs.Nodes.{nodesOf}
-use Rattle.formula.specs.Sets.{setChecked}
-use Rattle.clausal.specs.Renamings.{renamedBelow, renaming}
+use Rattle.formula.specs.Tables.{nodesOf}
+use Rattle.clausal.specs.Clauses.{renamedBelow, renaming}
 use Rattle.clausal.specs.Output.{definitions, outputOf}
 use Rattle.clausal.specs.Totals.{trueTotals, totals}
 use Rattle.clausal.proofs.Notation.{all, accepted, sized, false-node, true-node, symbol, not-of, and-of, or-of, equivalent-of}

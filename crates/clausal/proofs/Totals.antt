@@ -9,12 +9,9 @@ use native.Mathlib.Omega.{arith}
 use lib.Dec.{lit<}
 use lib.ListN.{length, length-append, length-map}
 use Rattle.laws.specs.Numbers.{cap}
-use Rattle.clausal.specs.Algebra.{joinAll, clauses}
-use Rattle.clausal.specs.Literals.{Clause}
+use Rattle.clausal.specs.Clauses.{joinAll, clauses, Clause, rowOf, Renaming}
 use Rattle.clausal.specs.Output.{outputOf}
-use Rattle.clausal.specs.Rows.{rowOf}
 use Rattle.clausal.specs.Totals.{Size, literalsIn, sizeOf, sizes, clauseCeiling, literalCeiling, shown, trueTotals, totals}
-use Rattle.clausal.specs.Renamings.{Renaming}
 use Rattle.clausal.proofs.Related.{Keeps, keeps-of-map, related-row-by, related-whole}
 use Rattle.clausal.proofs.Ceilings.{read-under, read-over, capped-whole}
 use Rattle.formula.specs.declared.node.Node.{Node}

@@ -2,7 +2,8 @@
 -- that algebra is the node's truth.
 -- Assumes nothing.
 use mathlib.Core.Path.{_≡_, refl, sym, ap, _∙_}
-use mathlib.Core.Bool.{Bool, true, false, not, _&&_, _||_, Bool·beq, and-assoc, or-assoc, or-false, and-true, or-true, or-and-distrib-left, or-and-distrib-right}
+use mathlib.Core.Bool.{Bool, true, false, not, _&&_, _||_, Bool·beq, and-assoc, or-assoc, or-false, and-true, or-true, or-and-distrib-left}
+use mathlib.Core.Bool.{or-and-distrib-right}
 use mathlib.Core.List.{List, [], _∷_, _++_, map}
 use Prim.Native.Nat.{ℕ, _<_, _≤_}
 use native.Mathlib.Omega.{arith}
@@ -13,15 +14,13 @@ use Rattle.laws.proofs.Upward.{Each, each-at, each-upTo, take-upTo, getD-upTo}
 use Rattle.answer.specs.declared.Answer.the-variants.{Accepted}
 use Rattle.formula.specs.Checks.{checked}
 use Rattle.formula.proofs.Laws.WellFormed.{accepted-well-formed}
-use Rattle.formula.specs.Nodes.{nodesOf, nodeIn}
-use Rattle.formula.specs.Records.{known}
+use Rattle.formula.specs.Tables.{nodesOf, nodeIn, known}
 use Rattle.formula.specs.Inner.Right.{Below}
 use Rattle.formula.specs.Truths.{truthBy, truthFrom, truthsOf, truthOf}
-use Rattle.clausal.specs.Algebra.{Row, rowBy, joinAll, clauses}
-use Rattle.clausal.specs.Literals.{Clause}
+use Rattle.clausal.specs.Clauses.{Row, rowBy, joinAll, clauses, Clause, Renaming}
 use Rattle.clausal.specs.Output.{wholeOf, outputOf}
-use Rattle.clausal.specs.Satisfies.{literalTrue, clauseTrue, satisfies, truths}
-use Rattle.clausal.specs.Renamings.{Renaming}
+use Rattle.clausal.specs.Meanings.{literalTrue, clauseTrue, satisfies}
+use Rattle.clausal.specs.Inner.Extended.{truths}
 use Rattle.clausal.proofs.Related.{Keeps, keeps-of-map, related-whole}
 use Rattle.clausal.proofs.Rows.{ruleAt, rule-same}
 use Rattle.formula.specs.declared.node.Kind.{Kind}
@@ -135,4 +134,5 @@ module _ (ρ τ : ℕ → Bool) where
 pub truth-options : (t : List ℕ) (v : ℕ) → checked t v ≡ Accepted 0 0 → (ρ τ : ℕ → Bool)
     → ((x : ℕ) → 0 < x → x ≤ v → ρ x ≡ τ x) → (i : ℕ) → truthOf ρ (nodesOf t) i ≡ truthOf τ (nodesOf t) i
 truth-options t v accepted ρ τ same i =
-    truth-same ρ τ (nodesOf t) (λ j e. let r = accepted-well-formed t v 0 0 accepted .symbols j e in same (nodeIn (nodesOf t) j .a) (r .0) (r .1)) i
+    truth-same ρ τ (nodesOf t) (λ j e. let r = accepted-well-formed t v 0 0 accepted .symbols j e in same (nodeIn (nodesOf t) j .a) (r .0)
+    (r .1)) i

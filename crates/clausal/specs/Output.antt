@@ -5,11 +5,8 @@ use mathlib.Core.List.{List, [], _∷_, _++_}
 use Prim.Native.Nat.{ℕ, zero, suc, _-_}
 use lib.ListN.{length}
 use Rattle.formula.specs.Marks.{markOf, halvesOf}
-use Rattle.formula.specs.Sets.{renamed}
-use Rattle.clausal.specs.Algebra.{Algebra, clauses}
-use Rattle.clausal.specs.Renamings.{Renaming, helperOf, nameOf}
-use Rattle.clausal.specs.Literals.{Clause}
-use Rattle.clausal.specs.Rows.{rowOf}
+use Rattle.formula.specs.Checks.{renamed}
+use Rattle.clausal.specs.Clauses.{Algebra, clauses, Renaming, helperOf, nameOf, Clause, rowOf}
 use Rattle.formula.specs.declared.node.Node.{Node}
 
 -- R5.1, R5.3, R5.4: the root part, the half of a definition from helper to body, and the half back

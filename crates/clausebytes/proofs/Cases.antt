@@ -4,8 +4,7 @@ use mathlib.Core.Path.{_≡_, refl}
 use mathlib.Core.Bool.{true, false}
 use mathlib.Core.List.{[], _∷_}
 use Prim.Native.Nat.{_^_}
-use Rattle.clausebytes.specs.Words.{wordsOf, literalOf, clausesIn, clausesOf}
-use Rattle.clausebytes.specs.Right.{closedFrom, allWithin, wrongBytes}
+use Rattle.clausebytes.specs.Words.{wordsOf, literalOf, clausesIn, clausesOf, closedFrom, allWithin, wrongBytes}
 
 -- `1 -2`, and an empty clause
 two-clauses : clausesOf (1 ∷ 0 ∷ 0 ∷ 0 ∷ 254 ∷ 255 ∷ 255 ∷ 255 ∷ 0 ∷ 0 ∷ 0 ∷ 0 ∷ 0 ∷ 0 ∷ 0 ∷ 0 ∷ [])

@@ -11,13 +11,12 @@ use lib.ListN.{length, getD, length-append}
 use borrow.Author.Tests.{lt-ltb, le-ltb}
 use Rattle.laws.specs.Numbers.{littleAt, little}
 use Rattle.laws.proofs.Bytes.{littleAt-little, little-littleAt}
-use Rattle.clausal.specs.Literals.{Literal, Clause, wordOf, literalBytes, clauseBytes, clausesBytes}
+use Rattle.clausal.specs.Clauses.{Literal, Clause, wordOf, literalBytes, clauseBytes, clausesBytes}
 use Rattle.clausal.specs.Totals.{literalsIn}
-use Rattle.clausebytes.specs.Words.{wordsOf, literalOf, clausesOf, roomOf}
-use Rattle.clausebytes.specs.Right as right
-use Rattle.clausebytes.specs.Right.{mostVariables, Within, Right, wrongBytes}
-use Rattle.clausebytes.proofs.Laws.Stand.{Stand, no-word, a-zero, a-literal, stand, clauses-stand, closed-stand}
-use Rattle.clausebytes.proofs.Laws.Stand.{Small, no-small, a-small, within-stand, within-all}
+use Rattle.clausebytes.specs.Words.{wordsOf, literalOf, clausesOf, roomOf, mostVariables, Within, Right, wrongBytes}
+use Rattle.clausebytes.specs.Words as right
+use Rattle.clausebytes.proofs.Laws.Stand.{Stand, no-word, a-zero, a-literal, stand, clauses-stand, closed-stand, Small, no-small}
+use Rattle.clausebytes.proofs.Laws.Stand.{a-small, within-stand, within-all}
 use Rattle.clausebytes.proofs.Laws.Wrong.{not-wrong, right-of-not-wrong}
 
 -- R6.3: four bytes for each literal and for each clause

@@ -1,4 +1,3 @@
 -- Clause bytes, in the order of the rules.
 pub mod Words
-pub mod Right
 pub mod Inner

@@ -3,7 +3,7 @@ ghost use mathlib.Core.Path.{_≡_};
 ghost use Prim.Native.Nat.{_+_, _-_, _%_, _^_, _<_, _≤_};
 ghost use lib.ListN.{length};
 ghost use Rattle.laws.specs.Numbers.{littleAt};
-ghost use Rattle.clausal.specs.Literals.{wordOf};
+ghost use Rattle.clausal.specs.Clauses.{wordOf};
 ghost use Rattle.clausebytes.specs.Words.{literalOf, roomOf};
 
 // The first number that has the sign bit.

@@ -1,3 +1,2 @@
--- What converting answers, and what the inner contracts cite.
-pub mod Converted
+-- What the inner contracts cite.
 pub mod Inner

@@ -1,6 +1,6 @@
 // Writing the literals of one clause: each node through its children, whose numbers are lower.
-ghost use Rattle.formula.specs.Nodes.{nodesOf};
-ghost use Rattle.clausal.specs.Literals.{literalBytes};
+ghost use Rattle.formula.specs.Tables.{nodesOf};
+ghost use Rattle.clausal.specs.Clauses.{literalBytes};
 ghost use Rattle.convert.specs.Inner.Lists.{namesIn, ownList, seenList, shownAll};
 ghost use Rattle.convert.specs.Inner.Written.{Due, Put};
 ghost use lib.ListN.{getD};
@@ -23,8 +23,11 @@ fn write(
     sign: bool,
     k: usize,
 ) -> usize
-    requires { ⌜ Due (now (now table)) (now clauses) (now literals) (now helpers) (seenList (namesIn (now helpers)) (nodesOf (now (now table))) node sign) node k (now (now out)) at ⌝ }
-    ensures { λ r. ⌜ Put (shownAll literalBytes (getD (seenList (namesIn (now (helpers .entry))) (nodesOf (now (now (table .entry)))) node sign) k [])) (now (out .entry)) at r (now (out .exit)) ⌝ }
+    requires { ⌜ Due (now (now table)) (now clauses) (now literals) (now helpers)
+        (seenList (namesIn (now helpers)) (nodesOf (now (now table))) node sign) node k (now (now out)) at ⌝ }
+    ensures { λ r. ⌜ Put (shownAll literalBytes
+        (getD (seenList (namesIn (now (helpers .entry))) (nodesOf (now (now (table .entry)))) node sign) k [])) (now (out .entry)) at r
+        (now (out .exit)) ⌝ }
 {
     let helper = helpers[node];
     if helper != 0 {
@@ -47,8 +50,11 @@ pub fn write_own(
     sign: bool,
     k: usize,
 ) -> usize
-    requires { ⌜ Due (now (now table)) (now clauses) (now literals) (now helpers) (ownList (namesIn (now helpers)) (nodesOf (now (now table))) node sign) node k (now (now out)) at ⌝ }
-    ensures { λ r. ⌜ Put (shownAll literalBytes (getD (ownList (namesIn (now (helpers .entry))) (nodesOf (now (now (table .entry)))) node sign) k [])) (now (out .entry)) at r (now (out .exit)) ⌝ }
+    requires { ⌜ Due (now (now table)) (now clauses) (now literals) (now helpers)
+        (ownList (namesIn (now helpers)) (nodesOf (now (now table))) node sign) node k (now (now out)) at ⌝ }
+    ensures { λ r. ⌜ Put (shownAll literalBytes
+        (getD (ownList (namesIn (now (helpers .entry))) (nodesOf (now (now (table .entry)))) node sign) k [])) (now (out .entry)) at r
+        (now (out .exit)) ⌝ }
 {
     let step = lead(table, clauses, literals, helpers, node, sign, k);
     let parts = step.parts;

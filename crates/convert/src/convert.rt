@@ -1,11 +1,11 @@
 // Converting a formula under a set to clause bytes.
 ghost use mathlib.Core.Path.{_≡_};
 ghost use lib.ListN.{length};
-ghost use Rattle.formula.specs.Nodes.{nodesOf};
+ghost use Rattle.formula.specs.Tables.{nodesOf};
 ghost use Rattle.laws.specs.Lists.{splice};
-ghost use Rattle.clausal.specs.Renamings.{renaming, variablesOf};
+ghost use Rattle.clausal.specs.Clauses.{renaming, variablesOf};
 ghost use Rattle.totals.specs.Inner.Sized.{sized};
-ghost use Rattle.convert.specs.Converted.{takenChecked, convertedUnder, converted, convertedAfter};
+ghost use Rattle.clausal.specs.Calls.{takenChecked, convertedUnder, converted, convertedAfter};
 ghost use Rattle.convert.specs.Inner.Fitted.{fitted, writtenUnder, outputBytes, Convertible, Settled, Measured, Fitting};
 use crate::helper::name_all;
 use crate::part::write_all;
@@ -53,7 +53,8 @@ fn write_output(
     out: &mut [u8],
 ) -> u32
     requires { ⌜ Fitting (now table) taken (now marks) (now set) (now clauses) (now literals) (now out) ⌝ }
-    ensures { λ r. ⌜ (r ≡ variablesOf (renaming taken (now (set .entry))) (length (now (set .entry)))) × (now (out .exit) ≡ splice (now (out .entry)) 0 (outputBytes (now (table .entry)) taken (now (set .entry)))) ⌝ }
+    ensures { λ r. ⌜ (r ≡ variablesOf (renaming taken (now (set .entry))) (length (now (set .entry)))) ×
+        (now (out .exit) ≡ splice (now (out .entry)) 0 (outputBytes (now (table .entry)) taken (now (set .entry)))) ⌝ }
 {
     let mut helpers = [0u32; MOST_NODES];
     let last = name_all(taken, set, &mut helpers);
@@ -73,7 +74,8 @@ fn write_under(
     out: &mut [u8],
 ) -> Answer
     requires { ⌜ Measured (now table) taken (now marks) (now set) (now clauses) (now literals) (sized sum) ⌝ }
-    ensures { λ r. ⌜ record { answer = r; output = now (out .exit) } ≡ writtenUnder (renaming taken (now (set .entry))) (nodesOf (now (table .entry))) (now (out .entry)) ⌝ }
+    ensures { λ r. ⌜ record { answer = r; output = now (out .exit) } ≡ writtenUnder (renaming taken (now (set .entry)))
+        (nodesOf (now (table .entry))) (now (out .entry)) ⌝ }
 {
     let fits = fit(sum, out.len());
     if is_refusal(fits) {
@@ -96,7 +98,8 @@ fn convert_settled(
     out: &mut [u8],
 ) -> Answer
     requires { ⌜ Settled (now table) taken (now marks) (now set) ⌝ }
-    ensures { λ r. ⌜ record { answer = r; output = now (out .exit) } ≡ writtenUnder (renaming taken (now (set .entry))) (nodesOf (now (table .entry))) (now (out .entry)) ⌝ }
+    ensures { λ r. ⌜ record { answer = r; output = now (out .exit) } ≡ writtenUnder (renaming taken (now (set .entry)))
+        (nodesOf (now (table .entry))) (now (out .entry)) ⌝ }
 {
     let mut clauses = [[0u16; MOST_NODES]; 2];
     let mut literals = [[0u32; MOST_NODES]; 2];
@@ -108,7 +111,8 @@ fn convert_settled(
 // Checks a set for a table that is right, and converts, with helpers after what is taken.
 fn convert_under(table: &[u8], taken: u32, set: &[u8], out: &mut [u8]) -> Answer
     requires { ⌜ Convertible (now table) taken ⌝ }
-    ensures { λ r. ⌜ record { answer = r; output = now (out .exit) } ≡ convertedUnder (renaming taken (now (set .entry))) (nodesOf (now (table .entry))) (now (out .entry)) ⌝ }
+    ensures { λ r. ⌜ record { answer = r; output = now (out .exit) } ≡ convertedUnder (renaming taken (now (set .entry)))
+        (nodesOf (now (table .entry))) (now (out .entry)) ⌝ }
 {
     let mut marks = [0u8; MOST_NODES];
     mark_all(table, &mut marks);
@@ -137,7 +141,8 @@ fn check_taken(options: u32, taken: u32) -> Answer
 
 // Checks a table and a set, and writes the clauses of the formula under the set: variables and clauses are reported.
 pub fn convert(table: &[u8], options: u32, set: &[u8], out: &mut [u8]) -> Answer
-    ensures { λ r. ⌜ record { answer = r; output = now (out .exit) } ≡ converted (now (table .entry)) options (now (set .entry)) (now (out .entry)) ⌝ }
+    ensures { λ r. ⌜ record { answer = r; output = now (out .exit) } ≡ converted (now (table .entry)) options (now (set .entry))
+        (now (out .entry)) ⌝ }
 {
     let checked = formula::table::check(table, options);
     if is_refusal(checked) {
@@ -148,7 +153,8 @@ pub fn convert(table: &[u8], options: u32, set: &[u8], out: &mut [u8]) -> Answer
 
 // The same for a guard that is solved together with others: helpers come after `taken`, the last variable that is used.
 pub fn convert_after(table: &[u8], options: u32, taken: u32, set: &[u8], out: &mut [u8]) -> Answer
-    ensures { λ r. ⌜ record { answer = r; output = now (out .exit) } ≡ convertedAfter (now (table .entry)) options taken (now (set .entry)) (now (out .entry)) ⌝ }
+    ensures { λ r. ⌜ record { answer = r; output = now (out .exit) } ≡ convertedAfter (now (table .entry)) options taken (now (set .entry))
+        (now (out .entry)) ⌝ }
 {
     let checked = formula::table::check(table, options);
     if is_refusal(checked) {

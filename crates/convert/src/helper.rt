@@ -2,7 +2,7 @@
 ghost use mathlib.Core.Bool.{cond};
 ghost use mathlib.Core.Path.{_≡_};
 ghost use lib.ListN.{length};
-ghost use Rattle.clausal.specs.Renamings.{renaming, variablesOf};
+ghost use Rattle.clausal.specs.Clauses.{renaming, variablesOf};
 ghost use Rattle.convert.specs.Inner.Helpers.{helpersOf, Unnamed};
 use formula::set::is_renamed;
 
@@ -19,7 +19,8 @@ fn where_so(so: bool, number: u32) -> u32
 // Gives each renamed node its helper, from `taken` + 1 on, and returns the last variable.
 pub fn name_all(taken: u32, set: &[u8], helpers: &mut [u32; 1024]) -> u32
     requires { ⌜ Unnamed taken (now set) (now helpers) ⌝ }
-    ensures { λ r. ⌜ (r ≡ variablesOf (renaming taken (now (set .entry))) (length (now (set .entry)))) × (now (helpers .exit) ≡ helpersOf (renaming taken (now (set .entry))) (length (now (set .entry)))) ⌝ }
+    ensures { λ r. ⌜ (r ≡ variablesOf (renaming taken (now (set .entry))) (length (now (set .entry)))) ×
+        (now (helpers .exit) ≡ helpersOf (renaming taken (now (set .entry))) (length (now (set .entry)))) ⌝ }
 {
     let mut last = taken;
     let mut i = 0;

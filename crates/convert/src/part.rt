@@ -4,10 +4,11 @@ ghost use lib.ListN.{length, getD};
 ghost use mathlib.Core.List.{[]};
 ghost use denote.Ref.{at-last};
 ghost use Rattle.laws.specs.Lists.{splice};
-ghost use Rattle.formula.specs.Nodes.{nodesOf};
-ghost use Rattle.clausal.specs.Literals.{literalBytes, clauseBytes, clausesBytes};
+ghost use Rattle.formula.specs.Tables.{nodesOf};
+ghost use Rattle.clausal.specs.Clauses.{literalBytes, clauseBytes, clausesBytes};
 ghost use Rattle.convert.specs.Inner.Lists.{namesIn, ownList, shownAll};
-ghost use Rattle.convert.specs.Inner.Parts.{helperLiteral, around, half, definedBy, definedTo, allParts, ClauseDue, PartDue, DefinitionDue, DefinitionsDue, OutputDue};
+ghost use Rattle.convert.specs.Inner.Parts.{helperLiteral, around, half, definedBy, definedTo, allParts, ClauseDue, PartDue};
+ghost use Rattle.convert.specs.Inner.Parts.{DefinitionDue, DefinitionsDue, OutputDue};
 ghost use Rattle.convert.specs.Inner.Written.{Fits, Put};
 use crate::clause::write_own;
 use crate::step::own_count;
@@ -45,7 +46,10 @@ fn write_clause(
     k: usize,
 ) -> usize
     requires { ⌜ ClauseDue (now (now table)) (now clauses) (now literals) (now helpers) node sign k (now (now out)) at ⌝ }
-    ensures { λ r. ⌜ Put (clauseBytes (around (namesIn (now (helpers .entry)) node) sign (getD (ownList (namesIn (now (helpers .entry))) (nodesOf (now (now (table .entry)))) node sign) k []))) (now (out .entry)) at r (now (out .exit)) ⌝ }
+    ensures { λ r. ⌜ Put (clauseBytes
+        (around (namesIn (now (helpers .entry)) node) sign
+        (getD (ownList (namesIn (now (helpers .entry))) (nodesOf (now (now (table .entry)))) node sign) k []))) (now (out .entry)) at r
+        (now (out .exit)) ⌝ }
 {
     let helper = helpers[node];
     let first = put_helper(out, at, sign, false, helper);
@@ -68,7 +72,8 @@ fn write_part(
     sign: bool,
 ) -> usize
     requires { ⌜ PartDue (now (now table)) (now clauses) (now literals) (now helpers) has node sign (now (now out)) at ⌝ }
-    ensures { λ r. ⌜ Put (clausesBytes (half (namesIn (now (helpers .entry))) (nodesOf (now (now (table .entry)))) has node sign)) (now (out .entry)) at r (now (out .exit)) ⌝ }
+    ensures { λ r. ⌜ Put (clausesBytes (half (namesIn (now (helpers .entry))) (nodesOf (now (now (table .entry)))) has node sign))
+        (now (out .entry)) at r (now (out .exit)) ⌝ }
 {
     if !has {
         return at;
@@ -95,7 +100,8 @@ fn write_definition(
     node: usize,
 ) -> usize
     requires { ⌜ DefinitionDue (now (now table)) (now marks) (now clauses) (now literals) (now helpers) node (now (now out)) at ⌝ }
-    ensures { λ r. ⌜ Put (clausesBytes (definedBy (namesIn (now (helpers .entry))) (nodesOf (now (now (table .entry)))) node)) (now (out .entry)) at r (now (out .exit)) ⌝ }
+    ensures { λ r. ⌜ Put (clausesBytes (definedBy (namesIn (now (helpers .entry))) (nodesOf (now (now (table .entry)))) node))
+        (now (out .entry)) at r (now (out .exit)) ⌝ }
 {
     if helpers[node] == 0 {
         return at;
@@ -136,7 +142,9 @@ fn write_definitions(
     at: usize,
 ) -> usize
     requires { ⌜ DefinitionsDue (now (now table)) (now marks) (now clauses) (now literals) (now helpers) (now (now out)) at ⌝ }
-    ensures { λ r. ⌜ Put (clausesBytes (definedTo (namesIn (now (helpers .entry))) (nodesOf (now (now (table .entry)))) (length (nodesOf (now (now (table .entry))))))) (now (out .entry)) at r (now (out .exit)) ⌝ }
+    ensures { λ r. ⌜ Put (clausesBytes
+        (definedTo (namesIn (now (helpers .entry))) (nodesOf (now (now (table .entry)))) (length (nodesOf (now (now (table .entry)))))))
+        (now (out .entry)) at r (now (out .exit)) ⌝ }
 {
     let count = table.len() / NODE_BYTES;
     let mut next = at;
@@ -158,7 +166,8 @@ fn write_parts(
     out: &mut &mut [u8],
 ) -> usize
     requires { ⌜ OutputDue (now (now table)) (now marks) (now clauses) (now literals) (now helpers) (now (now out)) ⌝ }
-    ensures { λ r. ⌜ Put (clausesBytes (allParts (namesIn (now (helpers .entry))) (nodesOf (now (now (table .entry)))))) (now (out .entry)) 0 r (now (out .exit)) ⌝ }
+    ensures { λ r. ⌜ Put (clausesBytes (allParts (namesIn (now (helpers .entry))) (nodesOf (now (now (table .entry))))))
+        (now (out .entry)) 0 r (now (out .exit)) ⌝ }
 {
     let root = table.len() / NODE_BYTES - 1;
     let next = write_part(table, clauses, literals, helpers, out, 0, true, root, true);
@@ -175,7 +184,8 @@ pub fn write_all<'a>(
     out: &'a mut [u8],
 ) -> &'a mut [u8]
     requires { ⌜ OutputDue (now (now table)) (now marks) (now clauses) (now literals) (now helpers) (now out) ⌝ }
-    ensures { λ r. ⌜ r ≡ at-last (out .entry) (splice (now (out .entry)) 0 (clausesBytes (allParts (namesIn (now (helpers .entry))) (nodesOf (now (now (table .entry))))))) ⌝ }
+    ensures { λ r. ⌜ r ≡ at-last (out .entry)
+        (splice (now (out .entry)) 0 (clausesBytes (allParts (namesIn (now (helpers .entry))) (nodesOf (now (now (table .entry))))))) ⌝ }
 {
     let mut buffer = out;
     write_parts(table, marks, clauses, literals, helpers, &mut buffer);

@@ -1,10 +1,10 @@
 // How clause k of a node is found through its children.
 ghost use mathlib.Core.Path.{_≡_};
 ghost use Prim.Native.Nat.{_<_};
-ghost use Rattle.formula.specs.Limits.{mostNodes};
-ghost use Rattle.formula.specs.Nodes.{nodeAt};
+ghost use Rattle.formula.specs.Tables.{mostNodes, nodeAt};
 ghost use Rattle.convert.specs.Inner.Lists.{signed, pairIn};
-ghost use Rattle.convert.specs.Inner.Steps.{none, literalOf, leftOf, rightOf, bothOf, countIn, catStep, joinStep, joinsStep, stepBy, leadStep, Walkable, Leadable};
+ghost use Rattle.convert.specs.Inner.Steps.{none, literalOf, leftOf, rightOf, bothOf, countIn, catStep, joinStep, joinsStep, stepBy};
+ghost use Rattle.convert.specs.Inner.Steps.{leadStep, Walkable, Leadable};
 use formula::node::Kind;
 use formula::node::Node;
 use formula::node::node_at;
@@ -286,7 +286,8 @@ pub fn lead(
     k: usize,
 ) -> Step
     requires { ⌜ Leadable (now (now table)) node ⌝ }
-    ensures { λ r. ⌜ r ≡ leadStep (nodeAt (now (now (table .entry))) node) (now (clauses .entry)) (now (literals .entry)) (now (helpers .entry)) node sign k ⌝ }
+    ensures { λ r. ⌜ r ≡ leadStep (nodeAt (now (now (table .entry))) node) (now (clauses .entry)) (now (literals .entry))
+        (now (helpers .entry)) node sign k ⌝ }
 {
     if own_literals(literals, node, sign) == 0 {
         return nothing();

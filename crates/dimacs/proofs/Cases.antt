@@ -4,13 +4,12 @@ use mathlib.Core.Path.{_≡_, refl}
 use mathlib.Core.List.{List, [], _∷_, _++_}
 use Prim.Native.Nat.{ℕ}
 use lib.ListN.{replicate}
-use Rattle.text.specs.Decimals.{digits}
+use Rattle.text.specs.Texts.{digits}
 use Rattle.text.specs.Inner.Heads.{headOf}
 use Rattle.answer.specs.declared.Answer.{Answer}
 use Rattle.answer.specs.declared.Answer.the-variants.{Accepted, Room, Text, ClauseBytes}
-use Rattle.clausebytes.specs.Words.{wordsOf, clausesIn}
-use Rattle.clausebytes.specs.Right.{closedFrom, allWithin}
-use Rattle.dimacs.specs.Grammar.{cnf}
+use Rattle.clausebytes.specs.Words.{wordsOf, clausesIn, closedFrom, allWithin}
+use Rattle.dimacs.specs.Texts.{cnf}
 use Rattle.dimacs.specs.Inner.States.{stepOf}
 use Rattle.dimacs.specs.Calls.{writeCall, readCall}
 use Rattle.dimacs.specs.declared.phase.Phase.the-variants.{Between, Dead}

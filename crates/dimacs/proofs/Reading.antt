@@ -11,13 +11,12 @@ use Rattle.laws.proofs.Automata.{one-place}
 use Rattle.laws.proofs.Choices.{both}
 use Rattle.text.specs.Inner.Heads.{isDone, headOf}
 use Rattle.text.proofs.Headed.{head-continues}
-use Rattle.answer.specs.Part.{stored}
+use Rattle.answer.specs.Answers.{stored}
 use Rattle.answer.specs.declared.Answer.the-variants as answer
-use Rattle.clausal.specs.Literals.{Clause, clausesBytes}
-use Rattle.clausebytes.specs.Words.{clausesOf}
-use Rattle.clausebytes.specs.Right.{Right}
+use Rattle.clausal.specs.Clauses.{Clause, clausesBytes}
+use Rattle.clausebytes.specs.Words.{clausesOf, Right}
 use Rattle.clausebytes.proofs.Encoded.{clauses-of-bytes}
-use Rattle.dimacs.specs.Grammar.{cnf, Follows, Text, Accepted}
+use Rattle.dimacs.specs.Texts.{cnf, Follows, Text, Accepted}
 use Rattle.dimacs.specs.Inner.States.{accepts}
 use Rattle.dimacs.specs.Calls.{readCall}
 use Rattle.dimacs.specs.declared.state.State.{State}

@@ -5,16 +5,14 @@ use mathlib.Core.Bool.{true, false}
 use mathlib.Core.List.{List, [], _∷_, _++_, append-assoc}
 use Prim.Native.Nat.{ℕ}
 use lib.ListN.{length}
-use Rattle.text.specs.Decimals.{decimal}
-use Rattle.text.specs.Heads.{Blanks, Numbers, space, none, blanks, just, number, header}
-use Rattle.answer.specs.Part.{stored}
+use Rattle.text.specs.Texts.{decimal, Blanks, Numbers, space, none, blanks, just, number, header}
+use Rattle.answer.specs.Answers.{stored}
 use Rattle.answer.specs.declared.Answer.the-variants as answer
-use Rattle.clausal.specs.Literals.{Clause, clausesBytes}
-use Rattle.clausebytes.specs.Words.{clausesOf}
-use Rattle.clausebytes.specs.Right.{Right, wrongBytes}
+use Rattle.clausal.specs.Clauses.{Clause, clausesBytes}
+use Rattle.clausebytes.specs.Words.{clausesOf, Right, wrongBytes}
 use Rattle.clausebytes.proofs.Encoded.{Bytes, not-wrong-of-right, clauses-of-bytes, right-of-bytes, bytes-back}
-use Rattle.dimacs.specs.Written.{literalText, clauseLine, linesOf, writtenText}
-use Rattle.dimacs.specs.Grammar.{cnf, Body, blank, newline, end, white, zero, literal, Follows, Text}
+use Rattle.dimacs.specs.Texts.{literalText, clauseLine, linesOf, writtenText, cnf, Body, blank, newline, end, white, zero, literal}
+use Rattle.dimacs.specs.Texts.{Follows, Text}
 use Rattle.dimacs.specs.Calls.{writeCall, readCall}
 use Rattle.dimacs.proofs.Reading.{reads, right-text}
 

@@ -5,12 +5,10 @@ use mathlib.Core.List.{List}
 use Prim.Native.Nat.{ℕ}
 use lib.ListN.{length}
 use Rattle.text.specs.Inner.Heads.{isDone, headOf}
-use Rattle.answer.specs.Part.{Wrote, stored}
+use Rattle.answer.specs.Answers.{Wrote, stored}
 use Rattle.answer.specs.declared.Answer.the-variants.{Accepted, Text, ClauseBytes}
-use Rattle.clausebytes.specs.Words.{clausesOf}
-use Rattle.clausebytes.specs.Right.{wrongBytes}
-use Rattle.dimacs.specs.Written.{writtenText}
-use Rattle.dimacs.specs.Grammar.{cnf}
+use Rattle.clausebytes.specs.Words.{clausesOf, wrongBytes}
+use Rattle.dimacs.specs.Texts.{writtenText, cnf}
 use Rattle.dimacs.specs.Inner.States.{startOf, accepts, stateFrom, bytesFrom}
 use Rattle.dimacs.specs.declared.state.State.{State}
 

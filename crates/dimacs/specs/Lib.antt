@@ -1,5 +1,4 @@
 -- DIMACS text, in the order of the rules.
-pub mod Written
-pub mod Grammar
+pub mod Texts
 pub mod Calls
 pub mod Inner

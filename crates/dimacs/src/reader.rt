@@ -2,7 +2,7 @@
 ghost use mathlib.Core.Path.{_≡_};
 ghost use Prim.Native.Nat.{_+_, _≤_};
 ghost use lib.ListN.{length};
-ghost use Rattle.laws.specs.Lists.{Stored};
+ghost use Rattle.laws.specs.Inner.Stores.{Stored};
 ghost use Rattle.laws.specs.Numbers.{little};
 ghost use Rattle.dimacs.specs.Inner.Table.{tokenBytes, tokenFor};
 ghost use Rattle.dimacs.specs.Inner.States.{Walking, Walked};

@@ -2,9 +2,10 @@
 ghost use mathlib.Core.Path.{_≡_};
 ghost use Prim.Native.Nat.{_+_, _^_, _<_, _≤_};
 ghost use lib.ListN.{length};
-ghost use Rattle.laws.specs.Lists.{Stored, splice};
+ghost use Rattle.laws.specs.Lists.{splice};
+ghost use Rattle.laws.specs.Inner.Stores.{Stored};
 ghost use Rattle.clausebytes.specs.Words.{wordsOf};
-ghost use Rattle.dimacs.specs.Written.{headerLine};
+ghost use Rattle.dimacs.specs.Texts.{headerLine};
 ghost use Rattle.dimacs.specs.Inner.Words.{wordText, wordsText, textOf};
 use clausebytes::word::SIGN;
 use clausebytes::word::magnitude;

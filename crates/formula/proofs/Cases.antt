@@ -6,11 +6,10 @@ use mathlib.Core.List.{List, [], _∷_, _++_, map}
 use Prim.Native.Nat.{ℕ}
 use lib.Dec.{eqb}
 use Rattle.laws.specs.Lists.{firstFrom, upTo}
-use Rattle.formula.specs.Nodes.{nodesOf}
-use Rattle.formula.specs.Checks.{checked}
+use Rattle.formula.specs.Tables.{nodesOf}
+use Rattle.formula.specs.Checks.{checked, setChecked}
 use Rattle.formula.specs.Marks.{downFrom, marksOf}
 use Rattle.formula.specs.Inner.Held.{byteOf}
-use Rattle.formula.specs.Sets.{setChecked}
 use Rattle.formula.specs.Truths.{formulaTrue}
 use Rattle.answer.specs.declared.Answer.the-variants.{Accepted, TableLength, Options, Record, Set}
 

@@ -1,10 +1,7 @@
 -- The formula table, in the order of the rules. What only inner contracts cite stands in Inner.
-pub mod Limits
-pub mod Nodes
-pub mod Records
-pub mod Checks
-pub mod Marks
+pub mod Tables
 pub mod Paths
-pub mod Sets
+pub mod Marks
+pub mod Checks
 pub mod Truths
 pub mod Inner

@@ -5,7 +5,7 @@ use mathlib.Core.List.{List}
 use mathlib.Core.Path.{_≡_}
 use Prim.Native.Nat.{ℕ, _-_}
 use lib.ListN.{length}
-use Rattle.formula.specs.Nodes.{nodeIn}
+use Rattle.formula.specs.Tables.{nodeIn}
 use Rattle.formula.specs.declared.mark.Mark.{Mark}
 use Rattle.formula.specs.declared.node.Kind.the-variants.{Not, And, Or, Implies, Equivalent}
 use Rattle.formula.specs.declared.node.Node.{Node}

@@ -5,7 +5,7 @@ use mathlib.Core.List.{List}
 use Prim.Native.Nat.{ℕ, _-_}
 use lib.ListN.{length, getD}
 use Rattle.laws.specs.Lists.{upTo}
-use Rattle.formula.specs.Nodes.{nodeIn}
+use Rattle.formula.specs.Tables.{nodeIn}
 use Rattle.formula.specs.declared.node.Kind.{Kind}
 use Rattle.formula.specs.declared.node.Kind.the-variants.{False, True, Symbol, Not, And, Or, Implies, Equivalent, Unknown}
 use Rattle.formula.specs.declared.node.Node.{Node}

@@ -2,9 +2,8 @@
 ghost use mathlib.Core.Path.{_≡_};
 ghost use Prim.Native.Nat.{_<_, _≤_};
 ghost use Rattle.formula.specs.Inner.Held.{byteOf, heldAt, heldMore, heldPassed, held, Unmarked};
-ghost use Rattle.formula.specs.Limits.{mostNodes};
+ghost use Rattle.formula.specs.Tables.{mostNodes, nodesOf};
 ghost use Rattle.formula.specs.Marks.{unmarked, joined, turned, doubled, toA, toB, marksOf, halvesOf};
-ghost use Rattle.formula.specs.Nodes.{nodesOf};
 use crate::node::Kind;
 use crate::node::NODE_BYTES;
 use crate::node::Node;

@@ -4,9 +4,8 @@ ghost use Prim.Native.Nat.{_+_, _<_, _≤_};
 ghost use lib.ListN.{length};
 ghost use Rattle.laws.specs.Lists.{splice};
 ghost use Rattle.laws.specs.Numbers.{little, littleAt};
-ghost use Rattle.formula.specs.Limits.{fieldBytes, nodeBytes};
-ghost use Rattle.formula.specs.Nodes.{kindOf, nodeAt, nodeCount, nodeRecord};
-ghost use Rattle.formula.specs.Records.{known, useOfA, useOfB, fieldRight, faultOf};
+ghost use Rattle.formula.specs.Tables.{fieldBytes, nodeBytes, kindOf, nodeAt, nodeCount, nodeRecord, known, useOfA, useOfB};
+ghost use Rattle.formula.specs.Tables.{fieldRight, faultOf};
 
 // Bytes of a field, and of a node: its kind and two fields.
 pub const FIELD_BYTES: usize = 2;

@@ -2,7 +2,7 @@
 ghost use mathlib.Core.Path.{_≡_};
 ghost use Prim.Native.Nat.{_≤_};
 ghost use lib.ListN.{length};
-ghost use Rattle.formula.specs.Limits.{mostTable};
+ghost use Rattle.formula.specs.Tables.{mostTable};
 ghost use Rattle.formula.specs.Checks.{lengthWrong, firstWrong, checked};
 use crate::node::MOST_OPTIONS;
 use crate::node::MOST_TABLE;

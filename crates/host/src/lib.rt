@@ -2,11 +2,9 @@
 ghost use mathlib.Core.Path.{_≡_};
 ghost use Prim.Native.Nat.{ℕ, _<_};
 ghost use lib.ListN.{getD};
-ghost use Rattle.answer.specs.Part.{only, leaves};
+ghost use Rattle.answer.specs.Answers.{only, leaves};
 ghost use Rattle.formula.specs.Checks.{checked};
-ghost use Rattle.totals.specs.Measured.{measured};
-ghost use Rattle.choose.specs.Chosen.{chosenBy};
-ghost use Rattle.convert.specs.Converted.{converted, convertedAfter};
+ghost use Rattle.clausal.specs.Calls.{measured, chosenBy, converted, convertedAfter};
 ghost use Rattle.dimacs.specs.Calls.{writeCall, readCall};
 use answer::give;
 use answer::is_part_wrong;

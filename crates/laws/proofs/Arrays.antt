@@ -7,7 +7,7 @@ use native.Mathlib.Numerals.{add-one}
 use native.Mathlib.Omega.{arith}
 use lib.ListN.{length, getD, set, replicate, length-append, length-replicate, length-set}
 use lib.Seq.{set-append-seam, set-append-left}
-use Rattle.laws.specs.Lists.{padTo}
+use Rattle.laws.specs.Inner.Stores.{padTo}
 
 module _ {A : Type 0} (z : A) where
   getD-copies : (k i : ℕ) → getD (replicate k z) i z ≡ z

@@ -23,7 +23,8 @@ module _ {S : Type 0} (step : S → ℕ → S) where
   run-append s (b ∷ l) t = run-append (step s b) l t
 
   -- one byte on, and the end
-  pub run-next : (s r : S) (text : List ℕ) (i : ℕ) → i < length text → r ≡ step s (getD text i 0) → run step r (drop (i + 1) text) ≡ run step s (drop i text)
+  pub run-next : (s r : S) (text : List ℕ) (i : ℕ) → i < length text → r ≡ step s (getD text i 0) → run step r (drop (i + 1) text)
+      ≡ run step s (drop i text)
   run-next s r text i h e = rw (add-one, drop-cons text i 0) (ap (λ x. run step x (drop (suc i) text)) e)
 
   pub run-end : (s : S) (text : List ℕ) (i : ℕ) → length text ≤ i → run step s (drop i text) ≡ s
@@ -94,8 +95,11 @@ module _ {S : Type 0} (step : S → ℕ → S) (live accepts : S → Bool) (Kept
       where
         begins : (l : List ℕ) → T (live (run step s l)) → Begins Accepted l
         begins l h =
-            let e = f .finish (run step s l) in
-            (e, sound (l ++ e) (subst (λ x. T (accepts x)) (sym (run-append step s l e)) (f .finishes (run step s l) (kept-run s l keeps) h)))
+            let e = f .finish (run step s l) in (
+              e,
+              sound (l ++ e) (subst (λ x. T (accepts x)) (sym (run-append step s l e))
+                  (f .finishes (run step s l) (kept-run s l keeps) h)),
+            )
 
         viable : (l : List ℕ) → Begins Accepted l → T (live (run step s l))
         viable l g = was-live (run step s l) (g .0)

@@ -31,7 +31,8 @@ littleAt-little (suc w) x r h =
     ap (λ (y : ℕ). x % 256 + 256 * y) e ∙ omega arith
 
 -- writing what is read
-pub little-littleAt : (w : ℕ) (l : List ℕ) (j : ℕ) → j + w ≤ length l → ((i : ℕ) → getD l i 0 < 256) → little w (littleAt w l j) ≡ take w (drop j l)
+pub little-littleAt : (w : ℕ) (l : List ℕ) (j : ℕ) → j + w ≤ length l → ((i : ℕ) → getD l i 0 < 256) → little w (littleAt w l j)
+    ≡ take w (drop j l)
 little-littleAt zero l j h b = refl
 little-littleAt (suc w) l j h b =
     let x : ℕ = littleAt w l (j + 1) in

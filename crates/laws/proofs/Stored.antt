@@ -8,7 +8,8 @@ use native.Mathlib.Numerals.{add-one}
 use native.Mathlib.Omega.{arith}
 use lib.ListN.{length, set, take, drop, length-append, take-append-drop}
 use lib.Seq.{set-split, take-at}
-use Rattle.laws.specs.Lists.{splice, Stored}
+use Rattle.laws.specs.Lists.{splice}
+use Rattle.laws.specs.Inner.Stores.{Stored}
 use Rattle.laws.proofs.Splices.{splice-splice, length-splice}
 
 pub stored-nothing : (l : List ℕ) (at : ℕ) → Stored [] l at at l
@@ -65,7 +66,8 @@ module _ {whole l : List ℕ} {at : ℕ} {m : List ℕ} {n : ℕ} (fits : at + l
   pub storing-length : (rest : List ℕ) → Storing whole l at rest m n → length m ≡ length l
   storing-length rest w = stored-length (room-left (w .done) rest l at (storing-left rest w)) (w .stored)
 
-  pub storing-more : {o : List ℕ} {q : ℕ} (xs rest : List ℕ) → Storing whole l at (xs ++ rest) m n → Stored xs m n q o → Storing whole l at rest o q
+  pub storing-more : {o : List ℕ} {q : ℕ} (xs rest : List ℕ) → Storing whole l at (xs ++ rest) m n → Stored xs m n q o
+      → Storing whole l at rest o q
   storing-more xs rest w v =
       let split : whole ≡ (w .done ++ xs) ++ rest = w .split ∙ sym (append-assoc (w .done) xs rest) in
       let room : at + length (w .done ++ xs) ≤ length l = omega (arith, ap length split ∙ length-append (w .done ++ xs) rest) in

@@ -11,8 +11,8 @@ use lib.Dec.{eqb, leb}
 use lib.ListN.{length, getD, set, take, length-append}
 use lib.Seq.{getD-append-seam, take-append-le, take-all, getD-take}
 use borrow.Author.Tests.{eqb-true, eqb-false, leb-true, leb-false}
-use Rattle.laws.specs.Lists.{padTo}
 use Rattle.laws.specs.Lists.{grow, upTo}
+use Rattle.laws.specs.Inner.Stores.{padTo}
 use Rattle.laws.proofs.Arrays.{pad-more}
 
 module _ {A : Type 0} (f : List A → ℕ → A) where
@@ -42,7 +42,8 @@ module _ {A : Type 0} (f : List A → ℕ → A) where
   getD-upTo d i n h =
       sym (getD-take (suc i) (upTo f n) i d (omega arith))
       ∙ ap (λ (l : List A). getD l i d) (take-upTo (suc i) n h)
-      ∙ subst (λ (k : ℕ). getD (upTo f i ++ (f (upTo f i) i ∷ [])) k d ≡ f (upTo f i) i) (length-upTo i) (getD-append-seam (upTo f i) (f (upTo f i) i) [] d)
+      ∙ subst (λ (k : ℕ). getD (upTo f i ++ (f (upTo f i) i ∷ [])) k d ≡ f (upTo f i) i) (length-upTo i)
+      (getD-append-seam (upTo f i) (f (upTo f i) i) [] d)
 
   -- an array that holds the first i elements, and the next one stored
   pub pad-upTo : (z : A) (n i : ℕ) (x : A) → i < n → x ≡ f (upTo f i) i → set (padTo n z (upTo f i)) i x ≡ padTo n z (upTo f (i + 1))

@@ -2,9 +2,8 @@
 -- Assumes nothing: these are definitions.
 use mathlib.Core.Bool.{Bool, cond}
 use mathlib.Core.List.{List, [], _∷_, _++_}
-use mathlib.Core.Path.{_≡_}
-use Prim.Native.Nat.{ℕ, zero, suc, _+_, _-_}
-use lib.ListN.{length, take, drop, replicate}
+use Prim.Native.Nat.{ℕ, zero, suc, _+_}
+use lib.ListN.{length, take, drop}
 
 -- what holds of every element of a list
 pub data Every {A : Type 0} (Q : A → Type 0) : List A → Type 0 where
@@ -14,15 +13,6 @@ pub data Every {A : Type 0} (Q : A → Type 0) : List A → Type 0 where
 -- l with xs in the places from `at` on
 abbrev pub splice {ℓ} : {A : Type ℓ} → List A → ℕ → List A → List A
 splice l at xs = take at l ++ (xs ++ drop (at + length xs) l)
-
--- xs was stored in `before` from `at` on, which gives `after`; `next` is the place behind it
-pub record Stored (xs before : List ℕ) (at next : ℕ) (after : List ℕ) : Type 0 where
-  pub place : next ≡ at + length xs
-  pub list : after ≡ splice before at xs
-
--- the list, filled up with z to n elements, as an array holds it
-abbrev pub padTo {ℓ} : {A : Type ℓ} → ℕ → A → List A → List A
-padTo n z xs = xs ++ replicate (n - length xs) z
 
 -- one element more: the one that `f` makes of the list so far and of its place
 abbrev pub grow {ℓ} : {A : Type ℓ} → (List A → ℕ → A) → ℕ → List A → List A

@@ -9,10 +9,8 @@ use borrow.Author.Tests.{lt-ltb}
 use Rattle.laws.specs.Lists.{firstFrom}
 use Rattle.answer.specs.declared.Answer.{Answer}
 use Rattle.answer.specs.declared.Answer.the-variants.{Accepted, Room, Line}
-use Rattle.text.specs.Decimals.{digits, valueFrom, same}
-use Rattle.text.specs.Pieces.{parted}
-use Rattle.nodefile.specs.Lines.{areNumbers}
-use Rattle.nodefile.specs.Files.{lineRight, recordsTo, fileChecked, fileRead}
+use Rattle.text.specs.Texts.{digits, valueFrom, same, parted}
+use Rattle.nodefile.specs.Files.{areNumbers, lineRight, recordsTo, fileChecked, fileRead}
 
 -- `options` and a tab
 abbrev word : List ℕ

@@ -11,7 +11,7 @@ use line::NodeAt;
 use line::OptionsAt;
 use text::write::put_bytes;
 
-const MOST_BYTES: usize = 65_536;
+pub const MOST_BYTES: usize = 65_536;
 
 // Reads a node file as the bytes of a table; reports the option count and the nodes.
 // The records are collected first: a wrong line behind them leaves the lent buffer as it was.

@@ -1,5 +1,5 @@
 -- Laws of the program, by what is handed on.
-pub mod Lines
+pub mod Shows
 pub mod Clauses
 pub mod Conversions
 pub mod Tables

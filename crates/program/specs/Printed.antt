@@ -1,78 +1,69 @@
--- "Node file and program": what the program prints for a node file.
+-- R13.12 to R13.14: what the program prints for a node file.
 -- Assumes nothing: these are definitions.
 use mathlib.Core.Bool.{cond}
 use mathlib.Core.List.{List, [], _∷_, _++_}
-use mathlib.Core.Path.{_≡_}
 use Prim.Native.Nat.{ℕ, _≤_}
-use lib.Dec.{leb}
 use lib.ListN.{length, replicate}
-use Rattle.laws.specs.Caps.{cap}
-use Rattle.laws.specs.Decimals.{decimal}
-use Rattle.laws.specs.Splices.{splice}
-use Rattle.answer.specs.Numbers.{toldOf, refuses}
-use Rattle.answer.specs.Part.{mostShown}
+use Rattle.laws.specs.Inner.Stores.{Stored}
+use Rattle.laws.specs.Numbers.{cap}
+use Rattle.text.specs.Texts.{decimal}
+use Rattle.answer.specs.Answers.{toldOf, refuses, mostShown}
 use Rattle.answer.specs.declared.Answer.{Answer}
-use Rattle.answer.specs.declared.Answer.the-variants.{Room, ClauseBytes}
 use Rattle.formula.specs.Checks.{checked}
-use Rattle.formula.specs.Nodes.{nodesOf}
-use Rattle.clausal.specs.Choosing.{choose}
-use Rattle.clausal.specs.Helpers.{variablesOf}
-use Rattle.clausal.specs.Literals.{clausesBytes}
+use Rattle.formula.specs.Tables.{nodesOf}
+use Rattle.clausal.specs.Totals.{choose}
+use Rattle.clausal.specs.Clauses.{clausesBytes, renaming, variablesOf}
 use Rattle.clausal.specs.Output.{outputOf}
-use Rattle.convert.specs.Converted.{converted}
-use Rattle.dimacs.specs.Words.{wrongBytes, clausesOf}
-use Rattle.dimacs.specs.Written.{writtenText}
-use Rattle.nodefile.specs.Files.{fileChecked, fileTable, lineOf}
-use Rattle.nodefile.specs.Lines.{optionCount}
+use Rattle.clausebytes.specs.Words.{clausesOf}
+use Rattle.clausal.specs.Calls.{converted}
+use Rattle.dimacs.specs.Calls.{writeCall}
+use Rattle.dimacs.specs.Texts.{writtenText}
+use Rattle.nodefile.specs.Files.{fileChecked, fileTable, lineOf, optionCount}
 
--- "chooses with allowance 1,024"
+-- R13.12
 abbrev pub allowance : ℕ
 allowance = 1024
 
--- "with buffers of 65,536 bytes"
+-- R13.13: the bytes of a buffer, and a buffer before it is written
 abbrev pub bufferBytes : ℕ
-bufferBytes = 65536
+bufferBytes = 65_536
 
--- such a buffer, before it is written
 unfoldable pub blank : List ℕ
 blank = replicate bufferBytes 0
 
--- `refused` and a tab
+-- R13.14: `refused` and a tab, then a number and the byte behind it, twice
 abbrev pub refusedName : List ℕ
 refusedName = 114 ∷ 101 ∷ 102 ∷ 117 ∷ 115 ∷ 101 ∷ 100 ∷ 9 ∷ []
 
--- a number and the byte behind it
 abbrev pub field : ℕ → ℕ → List ℕ
 field n end = decimal n ++ (end ∷ [])
 
--- "on refusal it prints one line: `refused`, number, place, tab-parted"
 abbrev pub refusalLine : Answer → List ℕ
 refusalLine a = refusedName ++ (field (toldOf a .number) 9 ++ field (cap mostShown (toldOf a .place)) 10)
 
--- "prints DIMACS": the text of clause bytes, where they are right and it fits
-abbrev pub clausesPrinted : List ℕ → ℕ → List ℕ
-clausesPrinted bytes v =
-    cond (wrongBytes bytes v) (refusalLine ClauseBytes)
-    (cond (leb (length (writtenText v (clausesOf bytes))) bufferBytes) (writtenText v (clausesOf bytes)) (refusalLine Room))
+-- R13.14: the line of a refusal, or what comes after acceptance
+abbrev pub unlessRefused : Answer → List ℕ → List ℕ
+unlessRefused a text = cond (refuses a) (refusalLine a) text
 
--- "converts": a table under a set, where that is not refused
+-- R13.12: of clause bytes their text is printed ..
+abbrev pub clausesPrinted : List ℕ → ℕ → List ℕ
+clausesPrinted bytes v = unlessRefused (writeCall bytes v blank .answer) (writtenText v (clausesOf bytes))
+
+-- .. of a table under a set its clauses ..
 abbrev pub setPrinted : List ℕ → ℕ → List ℕ → List ℕ
 setPrinted t v s =
-    cond (refuses (converted t v s blank .answer)) (refusalLine (converted t v s blank .answer))
-    (clausesPrinted (clausesBytes (outputOf v s (nodesOf t))) (variablesOf v s (length (nodesOf t))))
+    unlessRefused (converted t v s blank .answer)
+    (clausesPrinted (clausesBytes (outputOf (renaming v s) (nodesOf t))) (variablesOf (renaming v s) (length (nodesOf t))))
 
--- "chooses": a table that is right under the set that is chosen for it
+-- .. of a table what it comes to under the set that is chosen for it ..
 abbrev pub tablePrinted : List ℕ → ℕ → List ℕ
-tablePrinted t v = cond (refuses (checked t v)) (refusalLine (checked t v)) (setPrinted t v (choose allowance v (nodesOf t) .chosen))
+tablePrinted t v = unlessRefused (checked t v) (setPrinted t v (choose allowance (renaming v []) (nodesOf t) .chosen))
 
--- "The program reads this": refusal 10 "looked at before all others"
+-- .. and of a node file its table. R13.7: refusal 10 comes before all others
 abbrev pub printed : List ℕ → List ℕ
-printed text =
-    cond (refuses (fileChecked text)) (refusalLine (fileChecked text))
-    (tablePrinted (fileTable text) (optionCount (lineOf text 0)))
+printed text = unlessRefused (fileChecked text) (tablePrinted (fileTable text) (optionCount (lineOf text 0)))
 
--- bytes at the start of a buffer that has room for them, and how many they are; the rest stays
+-- bytes stand at the start of a buffer that has room for them, and the rest of it is as before; `count` says how many they are
 pub record Shows (bytes before : List ℕ) (count : ℕ) (after : List ℕ) : Type 0 where
-  pub number : count ≡ length bytes
+  pub stored : Stored bytes before 0 count after
   pub within : count ≤ length after
-  pub output : after ≡ splice before 0 bytes

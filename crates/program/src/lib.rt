@@ -2,38 +2,23 @@
 mod refusal;
 
 ghost use mathlib.Core.Path.{_≡_};
-ghost use Prim.Native.Nat.{_+_, _*_, _≤_};
+ghost use Prim.Native.Nat.{_*_};
 ghost use lib.ListN.{length};
-ghost use Rattle.answer.specs.Numbers.{toldOf};
-ghost use Rattle.totals.specs.Measured.{measured};
-ghost use Rattle.program.specs.Printed.{bufferBytes, blank, clausesPrinted, setPrinted, tablePrinted, printed, Shows};
+ghost use Rattle.formula.specs.Tables.{nodeBytes};
+ghost use Rattle.program.specs.Printed.{bufferBytes, clausesPrinted, setPrinted, tablePrinted, printed, Shows};
+ghost use Rattle.program.specs.Inner.Sizes.{sizeTold, Room};
 use answer::is_refusal;
 use answer::tell;
+use clausebytes::word::room;
+use formula::node::MOST_NODES;
+use formula::node::MOST_TABLE;
 use formula::node::NODE_BYTES;
 use refusal::put_refusal;
 
 const ALLOWANCE: u32 = 1_024;
 
-// A buffer for clause bytes.
-fn clause_room() -> [u8; 65_536]
-    ensures { λ r. ⌜ r ≡ blank ⌝ }
-{
-    [0; 65_536]
-}
-
-// A buffer for a table.
-fn table_room() -> [u8; 5_120]
-    ensures { λ r. ⌜ 5120 ≡ length r ⌝ }
-{
-    [0; 5_120]
-}
-
-// A buffer for a set.
-fn set_room() -> [u8; 1_024]
-    ensures { λ r. ⌜ 1024 ≡ length r ⌝ }
-{
-    [0; 1_024]
-}
+// Bytes of a buffer: one for clause bytes, and another for what is printed.
+pub const BUFFER: usize = 65_536;
 
 // Prints clause bytes as text.
 fn print_clauses(clauses: &[u8], variables: u32, out: &mut [u8]) -> usize
@@ -47,12 +32,12 @@ fn print_clauses(clauses: &[u8], variables: u32, out: &mut [u8]) -> usize
     dimacs::text_length(clauses, variables)
 }
 
-// How many clause bytes a table has under a set: four for each clause and for each literal.
+// How many clause bytes a table has under a set.
 fn size(table: &[u8], options: u32, set: &[u8]) -> usize
-    ensures { λ r. ⌜ r ≡ 4 * (toldOf (measured (now (table .entry)) options (now (set .entry))) .first + toldOf (measured (now (table .entry)) options (now (set .entry))) .second) ⌝ }
+    ensures { λ r. ⌜ r ≡ sizeTold (now (table .entry)) options (now (set .entry)) ⌝ }
 {
     let told = tell(totals::measure::measure(table, options, set));
-    4 * (told.first as usize + told.second as usize)
+    room(told.first, told.second)
 }
 
 // Converts a table under a set, and prints the clauses.
@@ -60,7 +45,7 @@ fn print_set(table: &[u8], options: u32, set: &[u8], out: &mut [u8]) -> usize
     requires { ⌜ length (now out) ≡ bufferBytes ⌝ }
     ensures { λ r. ⌜ Shows (setPrinted (now (table .entry)) options (now (set .entry))) (now (out .entry)) r (now (out .exit)) ⌝ }
 {
-    let mut clauses = clause_room();
+    let mut clauses = [0u8; BUFFER];
     let made = convert::convert::convert(table, options, set, &mut clauses);
     if is_refusal(made) {
         return put_refusal(made, out);
@@ -72,13 +57,11 @@ fn print_set(table: &[u8], options: u32, set: &[u8], out: &mut [u8]) -> usize
 
 // Chooses a set for a table, and prints the clauses under it.
 fn print_table(table: &[u8], options: u32, out: &mut [u8]) -> usize
-    requires { ⌜ length (now table) ≤ 5120 ⌝ }
-    requires { ⌜ length (now out) ≡ bufferBytes ⌝ }
+    requires { ⌜ Room (now table) (now out) ⌝ }
     ensures { λ r. ⌜ Shows (tablePrinted (now (table .entry)) options) (now (out .entry)) r (now (out .exit)) ⌝ }
 {
-    let mut room = set_room();
-    let count = table.len() / NODE_BYTES;
-    let set = &mut room[..count];
+    let mut sets = [0u8; MOST_NODES];
+    let set = &mut sets[..table.len() / NODE_BYTES];
     let chosen = choose::pass::choose(table, options, ALLOWANCE, set);
     if is_refusal(chosen) {
         return put_refusal(chosen, out);
@@ -86,17 +69,24 @@ fn print_table(table: &[u8], options: u32, out: &mut [u8]) -> usize
     print_set(table, options, set, out)
 }
 
+// How many bytes the nodes of a table take.
+fn table_size(nodes: u32) -> usize
+    ensures { λ r. ⌜ r ≡ nodeBytes * nodes ⌝ }
+{
+    NODE_BYTES * nodes as usize
+}
+
 // Prints what a node file comes to, at the start of a buffer, and returns how many bytes that is.
 pub fn print(text: &[u8], out: &mut [u8]) -> usize
     requires { ⌜ length (now out) ≡ bufferBytes ⌝ }
     ensures { λ r. ⌜ Shows (printed (now (text .entry))) (now (out .entry)) r (now (out .exit)) ⌝ }
 {
-    let mut room = table_room();
-    let read = nodefile::read(text, &mut room);
+    let mut table = [0u8; MOST_TABLE];
+    let read = nodefile::read(text, &mut table);
     if is_refusal(read) {
         return put_refusal(read, out);
     }
     let told = tell(read);
-    let bytes = NODE_BYTES * told.second as usize;
-    print_table(&room[..bytes], told.first, out)
+    let bytes = table_size(told.second);
+    print_table(&table[..bytes], told.first, out)
 }

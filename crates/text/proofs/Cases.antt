@@ -4,8 +4,7 @@ use mathlib.Core.Path.{_≡_, refl}
 use mathlib.Core.Bool.{true, false}
 use mathlib.Core.List.{List, [], _∷_, _++_}
 use Prim.Native.Nat.{ℕ}
-use Rattle.text.specs.Decimals.{digits, decimal, valueFrom, same}
-use Rattle.text.specs.Pieces.{parted}
+use Rattle.text.specs.Texts.{digits, decimal, valueFrom, same, parted}
 use Rattle.text.specs.Inner.Numbers.{grownOf, numberOf}
 use Rattle.text.specs.Inner.Heads.{headOf}
 use Rattle.text.specs.declared.number.Number.the-variants.{Wrong, Is}

@@ -9,9 +9,8 @@ use Prim.Native.Nat.{ℕ, _+_, _≤_, _<_}
 use native.Mathlib.Omega.{arith}
 use lib.ListN.{length, drop, length-append}
 use Rattle.laws.specs.Automata.{run, Begins, Longest}
-use Rattle.text.specs.Heads as grammar
-use Rattle.text.specs.Decimals.{decimal}
-use Rattle.text.specs.Heads.{Remark, Gap, Blanks, Byte, Numbers, Opening, Headed}
+use Rattle.text.specs.Texts as grammar
+use Rattle.text.specs.Texts.{decimal, Remark, Gap, Blanks, Byte, Numbers, Opening, Headed}
 use Rattle.text.specs.Inner.Heads.{isBlank, isDone, startOf, stepOf, headOf}
 use Rattle.text.specs.declared.head.Form.{Form}
 use Rattle.text.specs.declared.head.Head.{Head}

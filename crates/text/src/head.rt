@@ -1,9 +1,8 @@
 // The head of a DIMACS text, comments and a header line, for any word of three letters and one number or two.
 ghost use mathlib.Core.Path.{_≡_};
 ghost use Prim.Native.Nat.{_<_};
-ghost use Rattle.text.specs.Inner.Heads.{lastPlace, isBlank, isDone, isOver, startOf, toOf, deadOf, goOf, takenOf, mostOf};
-ghost use Rattle.text.specs.Inner.Heads.{lineOf, commentOf, beforeWordOf, beforeNumberOf, spaceOf, numberIn, afterOf, stepAt, stepOf};
-ghost use Rattle.text.specs.Inner.Heads.{headOf};
+ghost use Rattle.text.specs.Inner.Heads.{lastPlace, isBlank, isDone, isOver, startOf, toOf, deadOf, goOf, takenOf, mostOf, lineOf};
+ghost use Rattle.text.specs.Inner.Heads.{commentOf, beforeWordOf, beforeNumberOf, spaceOf, numberIn, afterOf, stepAt, stepOf, headOf};
 use crate::number::Number;
 use crate::number::digit_of;
 use crate::number::grown;

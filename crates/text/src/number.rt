@@ -2,7 +2,7 @@
 ghost use mathlib.Core.Path.{_≡_};
 ghost use Prim.Native.Nat.{_-_};
 ghost use lib.ListN.{length};
-ghost use Rattle.text.specs.Decimals.{decimal};
+ghost use Rattle.text.specs.Texts.{decimal};
 ghost use Rattle.text.specs.Inner.Numbers.{isDigit, grownOf, numberOf};
 
 pub enum Number {

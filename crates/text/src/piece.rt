@@ -2,7 +2,7 @@
 ghost use mathlib.Core.Path.{_≡_};
 ghost use Prim.Native.Nat.{_≤_};
 ghost use lib.ListN.{length};
-ghost use Rattle.text.specs.Decimals.{same};
+ghost use Rattle.text.specs.Texts.{same};
 ghost use Rattle.text.specs.Inner.Pieces.{MarkAt, fieldAt};
 use crate::number::Number;
 use crate::number::number_of;

@@ -2,8 +2,8 @@
 ghost use mathlib.Core.List.{_++_, _∷_, []};
 ghost use Prim.Native.Nat.{_+_, _≤_, _<_};
 ghost use lib.ListN.{length};
-ghost use Rattle.laws.specs.Lists.{Stored};
-ghost use Rattle.text.specs.Decimals.{decimal};
+ghost use Rattle.laws.specs.Inner.Stores.{Stored};
+ghost use Rattle.text.specs.Texts.{decimal};
 use crate::number::width;
 
 // Writes a byte, and returns the next place.

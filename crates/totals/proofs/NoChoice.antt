@@ -10,11 +10,11 @@ use contract.Lifetimes.{Lfts}
 use denote.Ref.{now}
 use denote.Triple.Clauses.{AtExit}
 use borrow.Fn.Kinds.{Dens, endedOf, resT}
-use Rattle.formula.specs.Nodes.{nodesOf}
+use Rattle.formula.specs.Tables.{nodesOf}
 use Rattle.formula.specs.declared.node.Node.{Node}
 use Rattle.formula.proofs.Laws.Tables.{length-nodesOf}
-use Rattle.clausal.specs.Choosing.{totalUnder}
-use Rattle.clausal.specs.Renamings.{renaming}
+use Rattle.clausal.specs.Totals.{totalUnder}
+use Rattle.clausal.specs.Clauses.{renaming}
 use Rattle.totals.specs.Inner.Columns.{Ready}
 use Rattle.totals.specs.Inner.Sums.{Tried}
 use Rattle.totals.specs.declared.total.ClauseTotal.{ClauseTotal}
@@ -77,91 +77,111 @@ module _ (ns : List Node) (i byte : ℕ) (s after later : List ℕ) (n m : ℕ) 
   tried-literals : ls ≡ ms
   tried-literals = ready-literals later ns (length ns) (omega arith) cs ls ds ms same (f .ready)
 
-pub clause-zero-settled : (κs : Lfts 0) (a : Dens κs clause-zero-kinds.ps) (r q : resT clause-zero-kinds.r κs .Denot) (s t : AtExit (endedOf 0 clause-zero-kinds.ps clause-zero-kinds.r) κs)
+pub clause-zero-settled : (κs : Lfts 0) (a : Dens κs clause-zero-kinds.ps) (r q : resT clause-zero-kinds.r κs .Denot)
+    (s t : AtExit (endedOf 0 clause-zero-kinds.ps clause-zero-kinds.r) κs)
     → clause-zero.Post κs a r s → clause-zero.Post κs a q t → r ≡ q
 unfolding clauseTotal
 clause-zero-settled κs a r q s t e f = ap clauseTotal (e ∙ sym f)
 
-pub clause-add-settled : (κs : Lfts 0) (a : Dens κs clause-add-kinds.ps) (r q : resT clause-add-kinds.r κs .Denot) (s t : AtExit (endedOf 0 clause-add-kinds.ps clause-add-kinds.r) κs)
+pub clause-add-settled : (κs : Lfts 0) (a : Dens κs clause-add-kinds.ps) (r q : resT clause-add-kinds.r κs .Denot)
+    (s t : AtExit (endedOf 0 clause-add-kinds.ps clause-add-kinds.r) κs)
     → clause-add.Post κs a r s → clause-add.Post κs a q t → r ≡ q
 unfolding clauseTotal
 clause-add-settled κs a r q s t e f = ap clauseTotal (e ∙ sym f)
 
-pub clause-join-settled : (κs : Lfts 0) (a : Dens κs clause-join-kinds.ps) (r q : resT clause-join-kinds.r κs .Denot) (s t : AtExit (endedOf 0 clause-join-kinds.ps clause-join-kinds.r) κs)
+pub clause-join-settled : (κs : Lfts 0) (a : Dens κs clause-join-kinds.ps) (r q : resT clause-join-kinds.r κs .Denot)
+    (s t : AtExit (endedOf 0 clause-join-kinds.ps clause-join-kinds.r) κs)
     → clause-join.Post κs a r s → clause-join.Post κs a q t → r ≡ q
 unfolding clauseTotal
 clause-join-settled κs a r q s t e f = ap clauseTotal (e ∙ sym f)
 
-pub literal-zero-settled : (κs : Lfts 0) (a : Dens κs literal-zero-kinds.ps) (r q : resT literal-zero-kinds.r κs .Denot) (s t : AtExit (endedOf 0 literal-zero-kinds.ps literal-zero-kinds.r) κs)
+pub literal-zero-settled : (κs : Lfts 0) (a : Dens κs literal-zero-kinds.ps) (r q : resT literal-zero-kinds.r κs .Denot)
+    (s t : AtExit (endedOf 0 literal-zero-kinds.ps literal-zero-kinds.r) κs)
     → literal-zero.Post κs a r s → literal-zero.Post κs a q t → r ≡ q
 unfolding literalTotal
 literal-zero-settled κs a r q s t e f = ap literalTotal (e ∙ sym f)
 
-pub literal-add-settled : (κs : Lfts 0) (a : Dens κs literal-add-kinds.ps) (r q : resT literal-add-kinds.r κs .Denot) (s t : AtExit (endedOf 0 literal-add-kinds.ps literal-add-kinds.r) κs)
+pub literal-add-settled : (κs : Lfts 0) (a : Dens κs literal-add-kinds.ps) (r q : resT literal-add-kinds.r κs .Denot)
+    (s t : AtExit (endedOf 0 literal-add-kinds.ps literal-add-kinds.r) κs)
     → literal-add.Post κs a r s → literal-add.Post κs a q t → r ≡ q
 unfolding literalTotal
 literal-add-settled κs a r q s t e f = ap literalTotal (e ∙ sym f)
 
-pub literal-join-settled : (κs : Lfts 0) (a : Dens κs literal-join-kinds.ps) (r q : resT literal-join-kinds.r κs .Denot) (s t : AtExit (endedOf 0 literal-join-kinds.ps literal-join-kinds.r) κs)
+pub literal-join-settled : (κs : Lfts 0) (a : Dens κs literal-join-kinds.ps) (r q : resT literal-join-kinds.r κs .Denot)
+    (s t : AtExit (endedOf 0 literal-join-kinds.ps literal-join-kinds.r) κs)
     → literal-join.Post κs a r s → literal-join.Post κs a q t → r ≡ q
 unfolding literalTotal
 literal-join-settled κs a r q s t e f = ap literalTotal (e ∙ sym f)
 
-pub none-settled : (κs : Lfts 0) (a : Dens κs none-kinds.ps) (r q : resT none-kinds.r κs .Denot) (s t : AtExit (endedOf 0 none-kinds.ps none-kinds.r) κs)
+pub none-settled : (κs : Lfts 0) (a : Dens κs none-kinds.ps) (r q : resT none-kinds.r κs .Denot)
+    (s t : AtExit (endedOf 0 none-kinds.ps none-kinds.r) κs)
     → none.Post κs a r s → none.Post κs a q t → r ≡ q
 none-settled κs a r q s t e f = e ∙ sym f
 
-pub empty-settled : (κs : Lfts 0) (a : Dens κs empty-kinds.ps) (r q : resT empty-kinds.r κs .Denot) (s t : AtExit (endedOf 0 empty-kinds.ps empty-kinds.r) κs)
+pub empty-settled : (κs : Lfts 0) (a : Dens κs empty-kinds.ps) (r q : resT empty-kinds.r κs .Denot)
+    (s t : AtExit (endedOf 0 empty-kinds.ps empty-kinds.r) κs)
     → empty.Post κs a r s → empty.Post κs a q t → r ≡ q
 empty-settled κs a r q s t e f = e ∙ sym f
 
-pub unit-settled : (κs : Lfts 0) (a : Dens κs unit-kinds.ps) (r q : resT unit-kinds.r κs .Denot) (s t : AtExit (endedOf 0 unit-kinds.ps unit-kinds.r) κs)
+pub unit-settled : (κs : Lfts 0) (a : Dens κs unit-kinds.ps) (r q : resT unit-kinds.r κs .Denot)
+    (s t : AtExit (endedOf 0 unit-kinds.ps unit-kinds.r) κs)
     → unit.Post κs a r s → unit.Post κs a q t → r ≡ q
 unit-settled κs a r q s t e f = e ∙ sym f
 
-pub cat-settled : (κs : Lfts 0) (a : Dens κs cat-kinds.ps) (r q : resT cat-kinds.r κs .Denot) (s t : AtExit (endedOf 0 cat-kinds.ps cat-kinds.r) κs)
+pub cat-settled : (κs : Lfts 0) (a : Dens κs cat-kinds.ps) (r q : resT cat-kinds.r κs .Denot)
+    (s t : AtExit (endedOf 0 cat-kinds.ps cat-kinds.r) κs)
     → cat.Post κs a r s → cat.Post κs a q t → r ≡ q
 cat-settled κs a r q s t e f = e ∙ sym f
 
-pub join-settled : (κs : Lfts 0) (a : Dens κs join-kinds.ps) (r q : resT join-kinds.r κs .Denot) (s t : AtExit (endedOf 0 join-kinds.ps join-kinds.r) κs)
+pub join-settled : (κs : Lfts 0) (a : Dens κs join-kinds.ps) (r q : resT join-kinds.r κs .Denot)
+    (s t : AtExit (endedOf 0 join-kinds.ps join-kinds.r) κs)
     → join.Post κs a r s → join.Post κs a q t → r ≡ q
 join-settled κs a r q s t e f = e ∙ sym f
 
-pub row-at-settled : (κs : Lfts 2) (a : Dens κs row-at-kinds.ps) (r q : resT row-at-kinds.r κs .Denot) (s t : AtExit (endedOf 2 row-at-kinds.ps row-at-kinds.r) κs)
+pub row-at-settled : (κs : Lfts 2) (a : Dens κs row-at-kinds.ps) (r q : resT row-at-kinds.r κs .Denot)
+    (s t : AtExit (endedOf 2 row-at-kinds.ps row-at-kinds.r) κs)
     → row-at.Post κs a r s → row-at.Post κs a q t → r ≡ q
 row-at-settled κs a r q s t e f = e ∙ sym f
 
-pub fill-clauses-settled : (κs : Lfts 4) (a : Dens κs fill-kinds.ps) (r q : resT fill-kinds.r κs .Denot) (s t : AtExit (endedOf 4 fill-kinds.ps fill-kinds.r) κs)
+pub fill-clauses-settled : (κs : Lfts 4) (a : Dens κs fill-kinds.ps) (r q : resT fill-kinds.r κs .Denot)
+    (s t : AtExit (endedOf 4 fill-kinds.ps fill-kinds.r) κs)
     → fill.Post κs a r s → fill.Post κs a q t → now (s .1 .1 .1 .0) ≡ now (t .1 .1 .1 .0)
 fill-clauses-settled κs a r q s t e f =
     ready-clauses _ _ _ (omega (arith, length-nodesOf (now (a .0)))) _ _ _ _ e f
 
-pub fill-literals-settled : (κs : Lfts 4) (a : Dens κs fill-kinds.ps) (r q : resT fill-kinds.r κs .Denot) (s t : AtExit (endedOf 4 fill-kinds.ps fill-kinds.r) κs)
+pub fill-literals-settled : (κs : Lfts 4) (a : Dens κs fill-kinds.ps) (r q : resT fill-kinds.r κs .Denot)
+    (s t : AtExit (endedOf 4 fill-kinds.ps fill-kinds.r) κs)
     → fill.Post κs a r s → fill.Post κs a q t → now (s .1 .1 .1 .1 .0) ≡ now (t .1 .1 .1 .1 .0)
 fill-literals-settled κs a r q s t e f =
     ready-literals _ _ _ (omega (arith, length-nodesOf (now (a .0)))) _ _ _ _ e f
 
-pub whole-settled : (κs : Lfts 5) (a : Dens κs whole-kinds.ps) (r q : resT whole-kinds.r κs .Denot) (s t : AtExit (endedOf 5 whole-kinds.ps whole-kinds.r) κs)
+pub whole-settled : (κs : Lfts 5) (a : Dens κs whole-kinds.ps) (r q : resT whole-kinds.r κs .Denot)
+    (s t : AtExit (endedOf 5 whole-kinds.ps whole-kinds.r) κs)
     → whole.Post κs a r s → whole.Post κs a q t → r ≡ q
 whole-settled κs a r q s t e f = e ∙ sym f
 
-pub trial-settled : (κs : Lfts 5) (a : Dens κs trial-kinds.ps) (r q : resT trial-kinds.r κs .Denot) (s t : AtExit (endedOf 5 trial-kinds.ps trial-kinds.r) κs)
+pub trial-settled : (κs : Lfts 5) (a : Dens κs trial-kinds.ps) (r q : resT trial-kinds.r κs .Denot)
+    (s t : AtExit (endedOf 5 trial-kinds.ps trial-kinds.r) κs)
     → trial.Post κs a r s → trial.Post κs a q t → r ≡ q
 unfolding clauseTotal
 trial-settled κs a r q s t e f = ap clauseTotal (tried-total _ _ _ _ _ _ _ _ _ _ _ _ e f)
 
-pub trial-set-settled : (κs : Lfts 5) (a : Dens κs trial-kinds.ps) (r q : resT trial-kinds.r κs .Denot) (s t : AtExit (endedOf 5 trial-kinds.ps trial-kinds.r) κs)
+pub trial-set-settled : (κs : Lfts 5) (a : Dens κs trial-kinds.ps) (r q : resT trial-kinds.r κs .Denot)
+    (s t : AtExit (endedOf 5 trial-kinds.ps trial-kinds.r) κs)
     → trial.Post κs a r s → trial.Post κs a q t → now (s .1 .1 .0) ≡ now (t .1 .1 .0)
 trial-set-settled κs a r q s t e f = tried-set _ _ _ _ _ _ _ _ _ _ _ _ e f
 
-pub trial-clauses-settled : (κs : Lfts 5) (a : Dens κs trial-kinds.ps) (r q : resT trial-kinds.r κs .Denot) (s t : AtExit (endedOf 5 trial-kinds.ps trial-kinds.r) κs)
+pub trial-clauses-settled : (κs : Lfts 5) (a : Dens κs trial-kinds.ps) (r q : resT trial-kinds.r κs .Denot)
+    (s t : AtExit (endedOf 5 trial-kinds.ps trial-kinds.r) κs)
     → trial.Post κs a r s → trial.Post κs a q t → now (s .1 .1 .1 .1 .1 .1 .0) ≡ now (t .1 .1 .1 .1 .1 .1 .0)
 trial-clauses-settled κs a r q s t e f = tried-clauses _ _ _ _ _ _ _ _ _ _ _ _ e f
 
-pub trial-literals-settled : (κs : Lfts 5) (a : Dens κs trial-kinds.ps) (r q : resT trial-kinds.r κs .Denot) (s t : AtExit (endedOf 5 trial-kinds.ps trial-kinds.r) κs)
+pub trial-literals-settled : (κs : Lfts 5) (a : Dens κs trial-kinds.ps) (r q : resT trial-kinds.r κs .Denot)
+    (s t : AtExit (endedOf 5 trial-kinds.ps trial-kinds.r) κs)
     → trial.Post κs a r s → trial.Post κs a q t → now (s .1 .1 .1 .1 .1 .1 .1 .0) ≡ now (t .1 .1 .1 .1 .1 .1 .1 .0)
 trial-literals-settled κs a r q s t e f = tried-literals _ _ _ _ _ _ _ _ _ _ _ _ e f
 
-pub measure-settled : (κs : Lfts 2) (a : Dens κs measure-kinds.ps) (r q : resT measure-kinds.r κs .Denot) (s t : AtExit (endedOf 2 measure-kinds.ps measure-kinds.r) κs)
+pub measure-settled : (κs : Lfts 2) (a : Dens κs measure-kinds.ps) (r q : resT measure-kinds.r κs .Denot)
+    (s t : AtExit (endedOf 2 measure-kinds.ps measure-kinds.r) κs)
     → measure.Post κs a r s → measure.Post κs a q t → r ≡ q
 measure-settled κs a r q s t e f = e ∙ sym f

@@ -1,3 +1,2 @@
--- What measuring answers, and what the inner contracts cite.
-pub mod Measured
+-- What the inner contracts cite.
 pub mod Inner

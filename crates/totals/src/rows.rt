@@ -1,9 +1,8 @@
 // The totals of every node under a set: clauses and literals, for each sign.
 ghost use mathlib.Core.Path.{_≡_};
 ghost use Prim.Native.Nat.{_<_, _≤_};
-ghost use Rattle.formula.specs.Limits.{mostNodes};
-ghost use Rattle.formula.specs.Nodes.{nodeAt, nodeCount, nodesOf};
-ghost use Rattle.clausal.specs.Algebra.{rowBy};
+ghost use Rattle.formula.specs.Tables.{mostNodes, nodeAt, nodeCount, nodesOf};
+ghost use Rattle.clausal.specs.Clauses.{rowBy};
 ghost use Rattle.clausal.specs.Totals.{capped};
 ghost use Rattle.totals.specs.Inner.Columns.{rowIn, childIn, rowNext, Ready, Fillable};
 ghost use Rattle.totals.specs.Inner.Sized.{rowed, asRow};
@@ -120,7 +119,8 @@ fn row_next(
 ) -> Row
     requires { ⌜ i < nodeCount (now table) ⌝ }
     requires { ⌜ i < mostNodes ⌝ }
-    ensures { λ r. ⌜ r ≡ asRow (rowNext (nodeAt (now (table .entry)) i) (now (set .entry)) (now (clauses .entry)) (now (literals .entry)) i) ⌝ }
+    ensures { λ r. ⌜ r ≡ asRow (rowNext (nodeAt (now (table .entry)) i) (now (set .entry)) (now (clauses .entry))
+        (now (literals .entry)) i) ⌝ }
 {
     let node = node_at(table, i);
     let x = child(set, clauses, literals, i, node.a);
@@ -137,7 +137,8 @@ pub fn fill(
     literals: &mut [[u32; 1024]; 2],
 )
     requires { ⌜ Fillable (now table) (now set) from (now clauses) (now literals) ⌝ }
-    ensures { λ _. ⌜ Ready (now (set .entry)) (nodesOf (now (table .entry))) (nodeCount (now (table .entry))) (now (clauses .exit)) (now (literals .exit)) ⌝ }
+    ensures { λ _. ⌜ Ready (now (set .entry)) (nodesOf (now (table .entry))) (nodeCount (now (table .entry))) (now (clauses .exit))
+        (now (literals .exit)) ⌝ }
 {
     let count = table.len() / NODE_BYTES;
     let mut i = from;

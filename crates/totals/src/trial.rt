@@ -1,5 +1,5 @@
 // The clause total under a set in which one node is put in or taken out.
-ghost use Rattle.formula.specs.Nodes.{nodesOf};
+ghost use Rattle.formula.specs.Tables.{nodesOf};
 ghost use Rattle.totals.specs.Inner.Sums.{Triable, Tried};
 use crate::rows::fill;
 use crate::total::ClauseTotal;
@@ -18,7 +18,8 @@ pub fn trial(
     literals: &mut [[u32; 1024]; 2],
 ) -> ClauseTotal
     requires { ⌜ Triable (now table) (now marks) (now set) from i byte (now clauses) (now literals) ⌝ }
-    ensures { λ r. ⌜ Tried (nodesOf (now (table .entry))) i byte (now (set .entry)) (now (set .exit)) (r .n) (now (clauses .exit)) (now (literals .exit)) ⌝ }
+    ensures { λ r. ⌜ Tried (nodesOf (now (table .entry))) i byte (now (set .entry)) (now (set .exit)) (r .n) (now (clauses .exit))
+        (now (literals .exit)) ⌝ }
 {
     set[i] = byte;
     fill(table, set, i + 1, clauses, literals);

@@ -2,10 +2,9 @@
 ghost use mathlib.Core.Path.{_≡_};
 ghost use Prim.Native.Nat.{_<_};
 ghost use Rattle.formula.specs.Inner.Held.{heldAt};
-ghost use Rattle.formula.specs.Limits.{mostNodes};
-ghost use Rattle.formula.specs.Nodes.{nodesOf};
-ghost use Rattle.formula.specs.Sets.{renamed};
-ghost use Rattle.clausal.specs.Renamings.{renaming};
+ghost use Rattle.formula.specs.Tables.{mostNodes, nodesOf};
+ghost use Rattle.formula.specs.Checks.{renamed};
+ghost use Rattle.clausal.specs.Clauses.{renaming};
 ghost use Rattle.clausal.specs.Totals.{capped, totals};
 ghost use Rattle.totals.specs.Inner.Columns.{rowIn};
 ghost use Rattle.totals.specs.Inner.Sized.{sized, asTotal, rowed};
@@ -50,7 +49,8 @@ fn with_node(
     sum: Total,
 ) -> Total
     requires { ⌜ i < mostNodes ⌝ }
-    ensures { λ r. ⌜ r ≡ asTotal (withNode capped (renamed (now (set .entry)) i) 0 (heldAt (now (marks .entry)) i) (rowIn (now (clauses .entry)) (now (literals .entry)) i) (sized sum)) ⌝ }
+    ensures { λ r. ⌜ r ≡ asTotal (withNode capped (renamed (now (set .entry)) i) 0 (heldAt (now (marks .entry)) i)
+        (rowIn (now (clauses .entry)) (now (literals .entry)) i) (sized sum)) ⌝ }
 {
     if !is_renamed(set, i) {
         return sum;

@@ -5,17 +5,17 @@ use mathlib.Core.Bool.{Bool, true, false, cond}
 use mathlib.Core.List.{List}
 use Prim.Native.Nat.{ℕ, _≤_}
 use native.Mathlib.Omega.{arith}
-use Rattle.answer.specs.Numbers.{refuses, after}
+use Rattle.answer.specs.Answers.{refuses, after, Wrote, afterwards, stored}
 use lib.Dec.{ltb}
 use lib.ListN.{length}
 use borrow.Author.Tests.{ltb-false}
 use Rattle.laws.specs.Lists.{splice}
-use Rattle.answer.specs.Part.{Wrote, afterwards, stored}
 use Rattle.answer.specs.declared.Answer.{Answer}
 use Rattle.answer.specs.declared.Answer.the-variants.{Room}
 
 -- a test whose answer would refuse did not hold
-pub passes : (b : Bool) (a rest : Answer) → (b ≡ true → refuses a ≡ true) → refuses (cond b a rest) ≡ false → (b ≡ false) × (refuses rest ≡ false)
+pub passes : (b : Bool) (a rest : Answer) → (b ≡ true → refuses a ≡ true) → refuses (cond b a rest) ≡ false → (b ≡ false)
+    × (refuses rest ≡ false)
 passes true a rest r e = let f = r refl in let z : _≡_ {A = ℕ} 0 1 = cc in absurd (omega arith)
 passes false a rest r e = (refl, e)
 
@@ -52,7 +52,8 @@ kept-afterwards a before w k = go (refuses a)
 pub kept-stored : (a : Answer) (bytes before : List ℕ) → refuses a ≡ false → Kept before (stored a bytes before)
 kept-stored a bytes before n = go (ltb (length before) (length bytes))
   where
-    go : (b : Bool) → Kept before (cond b (record { answer = Room; output = before }) (record { answer = a; output = splice before 0 bytes }))
+    go : (b : Bool) → Kept before (cond b (record { answer = Room; output = before })
+        (record { answer = a; output = splice before 0 bytes }))
     go true e = refl
     go false e = let z : _≡_ {A = ℕ} 0 1 = cc in absurd (omega arith)
 

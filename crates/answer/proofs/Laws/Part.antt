@@ -10,8 +10,7 @@ use lib.ListN.{length, length-append}
 use borrow.Author.Tests.{not-true, not-false, eqb-true, lt-ltb, le-ltb}
 use Rattle.laws.specs.Lists.{splice}
 use Rattle.laws.proofs.Splices.{splice-splice, splice-all}
-use Rattle.answer.specs.Numbers.{toldOf}
-use Rattle.answer.specs.Part.{bytesOf, Given, Wrote, stored, Left, leaves}
+use Rattle.answer.specs.Answers.{toldOf, bytesOf, Given, Wrote, stored, Left, leaves}
 use Rattle.answer.specs.declared.Answer.{Answer}
 use Rattle.answer.specs.declared.Answer.the-variants.{Room}
 
@@ -63,6 +62,8 @@ four-runs l₀ l₁ l₂ l₃ l₄ a b c d ha hb hc hd h e₁ e₂ e₃ e₄ =
     let labc : length ((a ++ b) ++ c) ≡ 12 = length-append (a ++ b) c ∙ omega arith in
     let all : length (((a ++ b) ++ c) ++ d) ≡ 16 = length-append ((a ++ b) ++ c) d ∙ omega arith in
     let f₂ : l₂ ≡ splice l₀ 0 (a ++ b) = e₂ ∙ ap (λ (l : List ℕ). splice l 4 b) e₁ ∙ splice-splice l₀ 0 a 4 b (omega arith) (omega arith) in
-    let f₃ : l₃ ≡ splice l₀ 0 ((a ++ b) ++ c) = e₃ ∙ ap (λ (l : List ℕ). splice l 8 c) f₂ ∙ splice-splice l₀ 0 (a ++ b) 8 c (omega arith) (omega arith) in
-    let f₄ : l₄ ≡ splice l₀ 0 (((a ++ b) ++ c) ++ d) = e₄ ∙ ap (λ (l : List ℕ). splice l 12 d) f₃ ∙ splice-splice l₀ 0 ((a ++ b) ++ c) 12 d (omega arith) (omega arith) in
+    let f₃ : l₃ ≡ splice l₀ 0 ((a ++ b) ++ c) = e₃ ∙ ap (λ (l : List ℕ). splice l 8 c) f₂ ∙ splice-splice l₀ 0 (a ++ b) 8 c (omega arith)
+    (omega arith) in
+    let f₄ : l₄ ≡ splice l₀ 0 (((a ++ b) ++ c) ++ d) = e₄ ∙ ap (λ (l : List ℕ). splice l 12 d) f₃ ∙ splice-splice l₀ 0 ((a ++ b) ++ c) 12 d
+    (omega arith) (omega arith) in
     f₄ ∙ splice-all l₀ (((a ++ b) ++ c) ++ d) (omega arith) ∙ simp append-assoc

@@ -3,7 +3,7 @@ use mathlib.Core.Path.{_≡_, refl, sym, ap, _∙_}
 use borrow.Author.Needs.{needs}
 use Rattle.laws.specs.Numbers.{little}
 use Rattle.answer.specs.declared.Told.{Told}
-use Rattle.answer.specs.Part.{bytesOf}
+use Rattle.answer.specs.Answers.{bytesOf}
 use Rattle.answer.proofs.Laws.Part.{four-runs}
 use Rattle.answer.proofs.give.Statement.{statement}
 use Rattle.answer.proofs.give.Tie as tie
@@ -19,7 +19,8 @@ returns c =
     let t = told .tell .result in
     let start = told .before .before in
     let place = p₂ .before .shown .result in
-    let written = four-runs (start .args .part .now) _ _ _ _ (little 4 (t .number)) (little 4 place) (little 4 (t .first)) (little 4 (t .second))
+    let written = four-runs (start .args .part .now) _ _ _ _ (little 4 (t .number)) (little 4 place) (little 4 (t .first))
+    (little 4 (t .second))
     refl refl refl refl (start .pre) (p₁ .put .ensures) (p₂ .put2 .ensures) (p₃ .put3 .ensures) (p₄ .put4 .ensures) in
     record {
       number = ap (λ (t : Told). t .number) (told .tell .ensures);

@@ -1,7 +1,7 @@
 -- `answer::tell` meets its contract: each arm gives its row of the table of refusals. Assumes nothing.
 use mathlib.Core.Path.{sym, ap, _∙_}
 use borrow.Author.Needs.{needs}
-use Rattle.answer.specs.Numbers.{toldOf}
+use Rattle.answer.specs.Answers.{toldOf}
 use Rattle.answer.proofs.tell.Statement.{statement}
 use Rattle.answer.proofs.tell.Tie as tie
 

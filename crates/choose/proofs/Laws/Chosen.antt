@@ -13,11 +13,11 @@ use borrow.Author.Tests.{eqb-true, eqb-false, ltb-true, eq-eqb, le-ltb}
 use Rattle.answer.specs.declared.Answer.the-variants.{Accepted}
 use Rattle.laws.proofs.Choices.{both}
 use Rattle.laws.proofs.First.{first-fails}
-use Rattle.formula.specs.Sets.{renamed, mayRename, byteRight, firstWrongByte, setChecked}
+use Rattle.formula.specs.Checks.{renamed, mayRename, byteRight, firstWrongByte, setChecked}
 use Rattle.formula.specs.declared.node.Node.{Node}
 use Rattle.formula.proofs.Laws.Sets.{RightSet}
-use Rattle.clausal.specs.Choosing.{Choice, totalUnder, goesIn, visit, visitsFrom, nothing, choose}
-use Rattle.clausal.specs.Renamings.{Renaming, renamedBelow}
+use Rattle.clausal.specs.Totals.{Choice, totalUnder, goesIn, visit, visitsFrom, nothing, choose}
+use Rattle.clausal.specs.Clauses.{Renaming, renamedBelow}
 use Rattle.clausal.proofs.Renamed.{below-none, renamed-set-other, below-set}
 
 -- whether b is right as the byte of node i

@@ -8,15 +8,15 @@ use native.Mathlib.Omega.{arith}
 use lib.Dec.{eqb}
 use lib.ListN.{length, getD, set, replicate, length-replicate}
 use Rattle.answer.specs.declared.Answer.the-variants.{Accepted}
-use Rattle.formula.specs.Nodes.{nodeCount, nodesOf}
-use Rattle.formula.specs.Sets.{renamed}
+use Rattle.formula.specs.Tables.{nodeCount, nodesOf}
+use Rattle.formula.specs.Checks.{renamed}
 use Rattle.formula.specs.declared.node.Node.{Node}
 use Rattle.formula.proofs.Laws.Tables.{length-nodesOf}
-use Rattle.clausal.specs.Choosing.{Choice, totalUnder, taken, goesIn, visit, visitsFrom, choose}
-use Rattle.clausal.specs.Renamings.{Renaming, renaming}
+use Rattle.clausal.specs.Totals.{Choice, totalUnder, taken, goesIn, visit, visitsFrom, choose}
+use Rattle.clausal.specs.Clauses.{Renaming, renaming}
 use Rattle.totals.specs.Inner.Columns.{Ready}
 use Rattle.totals.specs.Inner.Sums.{Low}
-use Rattle.choose.specs.Chosen.{told}
+use Rattle.clausal.specs.Calls.{told}
 use Rattle.choose.specs.Inner.Visits.{Passable, Standing, Visitable, Visited}
 
 zeros : (n j : ℕ) → _≡_ {A = ℕ} (getD (replicate n 0) j 0) 0

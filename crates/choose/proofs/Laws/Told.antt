@@ -6,12 +6,12 @@ use mathlib.Core.List.{List, []}
 use Prim.Native.Nat.{ℕ}
 use lib.Dec.{eqb}
 use lib.ListN.{length}
-use Rattle.answer.specs.Part.{Wrote}
+use Rattle.answer.specs.Answers.{Wrote}
 use Rattle.answer.specs.declared.Answer.the-variants.{Accepted, Set}
 use Rattle.formula.specs.declared.node.Node.{Node}
-use Rattle.clausal.specs.Choosing.{Choice, choose}
-use Rattle.clausal.specs.Renamings.{renaming}
-use Rattle.choose.specs.Chosen.{told, chosenUnder}
+use Rattle.clausal.specs.Totals.{Choice, choose}
+use Rattle.clausal.specs.Clauses.{renaming}
+use Rattle.clausal.specs.Calls.{told, chosenUnder}
 use Rattle.choose.proofs.Allowances.{total-options, choose-options}
 
 module _ (v w : ℕ) (ns : List Node) (allowance : ℕ) where

@@ -11,13 +11,11 @@ use lib.ListN.{length, getD, set, length-set}
 use lib.Seq.{getD-set-other, set-set, set-getD}
 use borrow.Author.Tests.{lt-ltb, le-ltb, ltb-true}
 use Rattle.formula.specs.Inner.Right.{Below}
-use Rattle.formula.specs.Nodes.{nodeIn}
-use Rattle.formula.specs.Sets.{renamed, mayRename}
+use Rattle.formula.specs.Tables.{nodeIn}
+use Rattle.formula.specs.Checks.{renamed, mayRename}
 use Rattle.formula.specs.declared.node.Node.{Node}
-use Rattle.clausal.specs.Algebra.{Row}
-use Rattle.clausal.specs.Choosing.{Choice, totalUnder, falls, taken, goesIn}
-use Rattle.clausal.specs.Renamings.{Renaming, renaming}
-use Rattle.clausal.specs.Totals.{Size}
+use Rattle.clausal.specs.Clauses.{Row, Renaming, renaming}
+use Rattle.clausal.specs.Totals.{Choice, totalUnder, falls, taken, goesIn, Size}
 use Rattle.clausal.proofs.Renamed.{renamed-set-other}
 use Rattle.totals.specs.Inner.Columns.{cell, Ready}
 use Rattle.totals.specs.Inner.Sums.{Low, Tried}
@@ -103,7 +101,8 @@ module _ (allowance : ℕ) (ns : List Node) (i : ℕ) (picks : ℕ) (s : List �
           → Attempted ns i before (record { picks = picks; chosen = set after i 0 }) sum ds ms
       rejected below h =
           let back : set after i 0 ≡ s =
-          ap (λ (l : List ℕ). set l i 0) (t .in-set) ∙ set-set s i 1 0 ∙ ap (set s i) (sym (stands .low i (omega arith))) ∙ set-getD s i 0 in
+          ap (λ (l : List ℕ). set l i 0) (t .in-set) ∙ set-set s i 1 0 ∙ ap (set s i) (sym (stands .low i (omega arith)))
+          ∙ set-getD s i 0 in
           let up : Ready (set s i 1) ns i ds ms =
           ready-less (set s i 1) ns i (length ns) ds ms (omega arith)
           (subst (λ (l : List ℕ). Ready l ns (length ns) ds ms) (t .in-set) (t .ready)) in

@@ -7,11 +7,10 @@ use Prim.Native.Nat.{ℕ, _+_, _<_}
 use lib.ListN.{length, getD, replicate}
 use Rattle.formula.specs.Inner.Held.{Marked}
 use Rattle.formula.specs.Inner.Right.{RightLength, Below}
-use Rattle.formula.specs.Limits.{mostNodes}
-use Rattle.formula.specs.Nodes.{nodeCount, nodeIn, nodesOf}
+use Rattle.formula.specs.Tables.{mostNodes, nodeCount, nodeIn, nodesOf}
 use Rattle.formula.specs.declared.node.Node.{Node}
-use Rattle.clausal.specs.Choosing.{Choice, totalUnder, falls, taken, visit}
-use Rattle.clausal.specs.Renamings.{renaming}
+use Rattle.clausal.specs.Totals.{Choice, totalUnder, falls, taken, visit}
+use Rattle.clausal.specs.Clauses.{renaming}
 use Rattle.totals.specs.Inner.Columns.{Ready}
 
 -- a checked table

@@ -8,8 +8,8 @@ use native.Mathlib.Omega.{arith}
 use lib.ListN.{length}
 use borrow.Author.Tests.{eq-eqb, ne-eqb, lt-ltb, le-ltb}
 use Rattle.clausal.specs.Totals.{literalsIn}
-use Rattle.clausebytes.specs.Words.{wordsOf, literalOf, clausesOf}
-use Rattle.clausebytes.specs.Right.{mostVariables, mostClauses, mostLiterals, closedFrom, allWithin, wrongBytes}
+use Rattle.clausebytes.specs.Words.{wordsOf, literalOf, clausesOf, mostVariables, mostClauses, mostLiterals, closedFrom, allWithin}
+use Rattle.clausebytes.specs.Words.{wrongBytes}
 use Rattle.clausebytes.specs.Inner.Checks.{checkedOf}
 use Rattle.clausebytes.specs.declared.check.Checked.the-variants.{Wrong, Counted}
 use Rattle.clausebytes.proofs.Laws.Stand.{stand, zerosIn, othersIn, count-stand, literals-stand, words-stand}

@@ -8,10 +8,9 @@ use native.Mathlib.Omega.{arith}
 use lib.Dec.{eqb, ltb}
 use lib.ListN.{length}
 use borrow.Author.Tests.{eq-eqb, ne-eqb, eqb-true, eqb-false, ltb-false, le-ltb}
-use Rattle.clausal.specs.Literals.{Literal, Clause}
+use Rattle.clausal.specs.Clauses.{Literal, Clause}
 use Rattle.clausal.specs.Totals.{literalsIn}
-use Rattle.clausebytes.specs.Words.{literalOf, ahead, clausesIn}
-use Rattle.clausebytes.specs.Right.{Within, none, closed, literal, closedFrom, allWithin}
+use Rattle.clausebytes.specs.Words.{literalOf, ahead, clausesIn, Within, none, closed, literal, closedFrom, allWithin}
 
 -- the words ws stand for the clauses cs
 pub data Stand : List ℕ → List Clause → Type 0 where

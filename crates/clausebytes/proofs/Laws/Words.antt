@@ -12,7 +12,7 @@ use lib.Seq.{drop-cons}
 use borrow.Author.Tests.{eqb-true, eqb-false}
 use Rattle.laws.specs.Numbers.{littleAt, little}
 use Rattle.laws.proofs.Bytes.{littleAt-cons}
-use Rattle.clausal.specs.Literals.{wordOf}
+use Rattle.clausal.specs.Clauses.{wordOf}
 use Rattle.clausebytes.specs.Words.{wordsOf}
 
 pub length-words : (l : List ℕ) → length (wordsOf l) ≡ length l / 4

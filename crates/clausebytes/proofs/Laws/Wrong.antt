@@ -9,8 +9,7 @@ use lib.ListN.{length}
 use borrow.Author.Tests.{eq-eqb, le-ltb, eqb-true, ltb-false, not-false}
 use Rattle.laws.proofs.Choices.{neither}
 use Rattle.clausal.specs.Totals.{literalsIn}
-use Rattle.clausebytes.specs.Words.{wordsOf, clausesOf}
-use Rattle.clausebytes.specs.Right.{mostVariables, mostClauses, mostLiterals, closedFrom, allWithin, wrongBytes}
+use Rattle.clausebytes.specs.Words.{wordsOf, clausesOf, mostVariables, mostClauses, mostLiterals, closedFrom, allWithin, wrongBytes}
 
 -- what right bytes are
 pub record RightBytes (bytes : List ℕ) (v : ℕ) : Type 0 where

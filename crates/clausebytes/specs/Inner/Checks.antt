@@ -5,8 +5,7 @@ use mathlib.Core.List.{List}
 use Prim.Native.Nat.{ℕ}
 use lib.ListN.{length}
 use Rattle.clausal.specs.Totals.{literalsIn}
-use Rattle.clausebytes.specs.Words.{clausesOf}
-use Rattle.clausebytes.specs.Right.{wrongBytes}
+use Rattle.clausebytes.specs.Words.{clausesOf, wrongBytes}
 use Rattle.clausebytes.specs.declared.check.Checked.{Checked}
 use Rattle.clausebytes.specs.declared.check.Checked.the-variants.{Wrong, Counted}
 

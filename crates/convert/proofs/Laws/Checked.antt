@@ -8,15 +8,13 @@ use native.Mathlib.Omega.{arith}
 use lib.Dec.{ltb}
 use borrow.Author.Tests.{ltb-false, le-ltb}
 use Rattle.laws.proofs.Choices.{neither}
-use Rattle.answer.specs.Numbers.{refuses}
-use Rattle.answer.specs.Part.{afterwards}
+use Rattle.answer.specs.Answers.{refuses, afterwards}
 use Rattle.answer.specs.declared.Answer.the-variants.{Accepted, Options}
 use Rattle.formula.specs.Checks.{checked}
 use Rattle.formula.specs.Inner.Right.{Right}
-use Rattle.formula.specs.Limits.{mostOptions}
-use Rattle.formula.specs.Nodes.{nodesOf}
+use Rattle.formula.specs.Tables.{mostOptions, nodesOf}
 use Rattle.formula.proofs.Laws.WellFormed.{accepts, checked-accepted, length-right, accepted-well-formed}
-use Rattle.convert.specs.Converted.{takenChecked, converted, convertedAfter}
+use Rattle.clausal.specs.Calls.{takenChecked, converted, convertedAfter}
 use Rattle.convert.specs.Inner.Fitted.{Convertible}
 
 module _ (t : List ℕ) (v : ℕ) (ok : refuses (checked t v) ≡ false) where

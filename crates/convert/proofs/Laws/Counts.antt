@@ -9,9 +9,7 @@ use lib.Dec.{eqb, lit<}
 use lib.ListN.{length, getD}
 use Rattle.laws.specs.Numbers.{cap}
 use Rattle.formula.specs.declared.node.Node.{Node}
-use Rattle.clausal.specs.Algebra.{Row, clauses, unitRow}
-use Rattle.clausal.specs.Literals.{Clause}
-use Rattle.clausal.specs.Rows.{rowOf}
+use Rattle.clausal.specs.Clauses.{Row, clauses, unitRow, Clause, rowOf}
 use Rattle.clausal.specs.Totals.{Size, literalsIn, sizeOf, capped, shown, clauseCeiling, literalCeiling}
 use Rattle.clausal.proofs.Ceilings.{capped-row, read-under}
 use Rattle.clausal.proofs.Totals.{size-row}
@@ -38,14 +36,22 @@ module _ (ns : List Node) (cs ls : List (List ℕ)) (helpers : List ℕ)
       sizes : Row (List Clause) → Row Size
       sizes r = record { P = shown (sizeOf (r .P)); N = shown (sizeOf (r .N)) }
 
-      row : rowIn cs ls n ≡ record { P = shown (sizeOf (rowOf clauses (namesIn helpers) ns n .P)); N = shown (sizeOf (rowOf clauses (namesIn helpers) ns n .N)) }
+      row : rowIn cs ls n ≡ record {
+        P = shown (sizeOf (rowOf clauses (namesIn helpers) ns n .P));
+        N = shown
+            (sizeOf (rowOf clauses (namesIn helpers) ns n .N));
+      }
       row =
           rows n
           ∙ capped-row clauseCeiling literalCeiling (lit< tt) (lit< tt) (namesIn helpers) ns n
           ∙ ap (λ (r : Row Size). record { P = shown (r .P); N = shown (r .N) }) (sym (size-row (namesIn helpers) ns n))
 
       go : (z : Bool)
-          → signed z (record { P = shown (sizeOf (rowOf clauses (namesIn helpers) ns n .P)); N = shown (sizeOf (rowOf clauses (namesIn helpers) ns n .N)) })
+          → signed z (record {
+            P = shown (sizeOf (rowOf clauses (namesIn helpers) ns n .P));
+            N = shown
+                (sizeOf (rowOf clauses (namesIn helpers) ns n .N));
+          })
           ≡ shown (sizeOf (ownList (namesIn helpers) ns n z))
       go true = refl
       go false = refl

@@ -10,13 +10,12 @@ use lib.ListN.{length, length-append}
 use borrow.Author.Tests.{ltb-true, ltb-false, lt-ltb, le-ltb}
 use Rattle.laws.specs.Lists.{splice}
 use Rattle.laws.specs.Numbers.{cap}
-use Rattle.answer.specs.Numbers.{refuses}
-use Rattle.answer.specs.Part.{Wrote, afterwards, stored}
+use Rattle.answer.specs.Answers.{refuses, Wrote, afterwards, stored}
 use Rattle.answer.specs.declared.Answer.{Answer}
 use Rattle.answer.specs.declared.Answer.the-variants.{Accepted, Clauses, Literals, Room}
-use Rattle.clausal.specs.Literals.{Clause, clauseBytes, clausesBytes}
+use Rattle.clausal.specs.Clauses.{Clause, clauseBytes, clausesBytes}
 use Rattle.clausal.specs.Totals.{Size, sizeOf, shown, clauseCeiling, literalCeiling}
-use Rattle.convert.specs.Converted.{ceilings}
+use Rattle.clausal.specs.Calls.{ceilings}
 use Rattle.convert.proofs.Laws.Parts.{length-clause}
 use Rattle.convert.specs.Inner.Fitted.{bytesFor, fitted}
 
@@ -30,7 +29,8 @@ data Case (x : Size) (room : ℕ) : Type 0 where
 case : (x : Size) (room : ℕ) → Case x room
 case x room = go (ltb (x .clauses) clauseCeiling) refl (ltb (x .literals) literalCeiling) refl (ltb room (bytesFor x)) refl
   where
-    go : (a : Bool) → ltb (x .clauses) clauseCeiling ≡ a → (b : Bool) → ltb (x .literals) literalCeiling ≡ b → (c : Bool) → ltb room (bytesFor x) ≡ c → Case x room
+    go : (a : Bool) → ltb (x .clauses) clauseCeiling ≡ a → (b : Bool) → ltb (x .literals) literalCeiling ≡ b → (c : Bool)
+        → ltb room (bytesFor x) ≡ c → Case x room
     go false p b q c r = many-clauses (ltb-false _ _ p)
     go true p false q c r = many-literals (ltb-true _ _ p) (ltb-false _ _ q)
     go true p true q true r = no-room (ltb-true _ _ p) (ltb-true _ _ q) (ltb-true _ _ r)
@@ -77,7 +77,8 @@ fitted-below x room e = go (case x room)
     go : Case x room → Below x room
     go (many-clauses h) = absurd (never Clauses (refused-clauses x room h) refl)
     go (many-literals h g) = absurd (never Literals (refused-literals x room h g) refl)
-    go (no-room h g r) = absurd (never Room (rw (lt-ltb (x .clauses) clauseCeiling h, lt-ltb (x .literals) literalCeiling g, lt-ltb room (bytesFor x) r)) refl)
+    go (no-room h g r) = absurd (never Room
+        (rw (lt-ltb (x .clauses) clauseCeiling h, lt-ltb (x .literals) literalCeiling g, lt-ltb room (bytesFor x) r)) refl)
     go (fits h g r) = record { clauses = h; same = shown-below x h g; room = r }
 
 -- the bytes of the output
@@ -92,15 +93,18 @@ pub fitted-stored : (x : Size) (a : Answer) (bytes before : List ℕ) → length
 fitted-stored x a bytes before e = go (ceilings x)
   where
     go : (c : Answer)
-        → afterwards (cond (refuses c) c (cond (ltb (length before) (bytesFor x)) Room (Accepted 0 0))) before (record { answer = a; output = splice before 0 bytes })
+        → afterwards (cond (refuses c) c (cond (ltb (length before) (bytesFor x)) Room (Accepted 0 0))) before
+        (record { answer = a; output = splice before 0 bytes })
         ≡ afterwards c before (stored a bytes before)
     go c = at (refuses c) refl
       where
         at : (b : Bool) → refuses c ≡ b
-            → afterwards (cond b c (cond (ltb (length before) (bytesFor x)) Room (Accepted 0 0))) before (record { answer = a; output = splice before 0 bytes })
+            → afterwards (cond b c (cond (ltb (length before) (bytesFor x)) Room (Accepted 0 0))) before
+            (record { answer = a; output = splice before 0 bytes })
             ≡ cond b (record { answer = c; output = before }) (stored a bytes before)
         at true f = rw f
-        at false f = ap (λ (n : ℕ). afterwards (cond (ltb (length before) n) Room (Accepted 0 0)) before (record { answer = a; output = splice before 0 bytes })) (sym e) ∙ tested (ltb (length before) (length bytes))
+        at false f = ap (λ (n : ℕ). afterwards (cond (ltb (length before) n) Room (Accepted 0 0)) before
+            (record { answer = a; output = splice before 0 bytes })) (sym e) ∙ tested (ltb (length before) (length bytes))
           where
             tested : (z : Bool) → afterwards (cond z Room (Accepted 0 0)) before (record { answer = a; output = splice before 0 bytes })
                 ≡ cond z (record { answer = Room; output = before }) (record { answer = a; output = splice before 0 bytes })

@@ -11,8 +11,7 @@ use lib.ListN.{length, getD, length-append}
 use borrow.Author.Tests.{ltb-true, ltb-false, ne-eqb}
 use Rattle.laws.specs.Numbers.{cap}
 use Rattle.formula.specs.declared.node.Node.{Node}
-use Rattle.clausal.specs.Algebra.{joinAll}
-use Rattle.clausal.specs.Literals.{Clause}
+use Rattle.clausal.specs.Clauses.{joinAll, Clause}
 use Rattle.clausal.specs.Totals.{clauseCeiling}
 use Rattle.clausal.proofs.Clauses.{clause-left, clause-right, clause-join, quotient-lt, remainder-lt}
 use Rattle.clausal.proofs.Totals.{length-join}
@@ -133,6 +132,8 @@ module _ (ns : List Node) (cs : List (List ℕ)) (helpers : List ℕ)
       → Leads (getD (equivalence a b sign) k [])
       (joinsStep cs helpers a b sign k)
   joins-leads a b true k ha hb h l =
-      joins-at a b true k ha hb (joinAll (list b false) (list a true)) (joinStep cs helpers b false a true) (λ j. join-leads b false a true j hb ha) h l
+      joins-at a b true k ha hb (joinAll (list b false) (list a true)) (joinStep cs helpers b false a true)
+      (λ j. join-leads b false a true j hb ha) h l
   joins-leads a b false k ha hb h l =
-      joins-at a b false k ha hb (joinAll (list a true) (list b true)) (joinStep cs helpers a true b true) (λ j. join-leads a true b true j ha hb) h l
+      joins-at a b false k ha hb (joinAll (list a true) (list b true)) (joinStep cs helpers a true b true)
+      (λ j. join-leads a true b true j ha hb) h l

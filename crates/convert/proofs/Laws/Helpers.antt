@@ -8,11 +8,12 @@ use native.Mathlib.Nat.{add-assoc}
 use native.Mathlib.Numerals.{add-one}
 use native.Mathlib.Omega.{arith}
 use lib.ListN.{length, set, replicate}
-use Rattle.laws.specs.Lists.{padTo, upTo}
+use Rattle.laws.specs.Lists.{upTo}
+use Rattle.laws.specs.Inner.Stores.{padTo}
 use Rattle.laws.proofs.Upward.{pad-upTo}
-use Rattle.formula.specs.Limits.{mostNodes}
-use Rattle.formula.specs.Sets.{renamed}
-use Rattle.clausal.specs.Renamings.{Renaming, renaming, renamedBelow, helperOf, nameOf, variablesOf}
+use Rattle.formula.specs.Tables.{mostNodes}
+use Rattle.formula.specs.Checks.{renamed}
+use Rattle.clausal.specs.Clauses.{Renaming, renaming, renamedBelow, helperOf, nameOf, variablesOf}
 use Rattle.convert.specs.Inner.Helpers.{helpersOf, Unnamed}
 
 one-at-most : (b : Bool) → cond b 1 0 ≤ 1

@@ -10,18 +10,14 @@ use lib.ListN.{length, getD}
 use borrow.Author.Tests.{eqb-true}
 use Rattle.laws.specs.Numbers.{cap}
 use Rattle.formula.specs.Inner.Right.{FieldBelow, Right}
-use Rattle.formula.specs.Limits.{mostNodes}
-use Rattle.formula.specs.Nodes.{nodeAt, nodeCount, nodeIn, nodesOf}
-use Rattle.formula.specs.Records.{useOfA, useOfB}
+use Rattle.formula.specs.Tables.{mostNodes, nodeAt, nodeCount, nodeIn, nodesOf, useOfA, useOfB}
 use Rattle.formula.specs.declared.node.Kind.{Kind}
 use Rattle.formula.specs.declared.node.Kind.the-variants.{False, True, Symbol, Not, And, Or, Implies, Equivalent, Unknown}
 use Rattle.formula.specs.declared.node.Node.{Node}
 use Rattle.formula.specs.declared.node.Use.{Use}
 use Rattle.formula.specs.declared.node.Use.the-variants as held
 use Rattle.formula.proofs.Laws.Tables.{length-nodesOf, nodeIn-nodesOf}
-use Rattle.clausal.specs.Algebra.{Row, clauses, rowBy}
-use Rattle.clausal.specs.Literals.{Clause}
-use Rattle.clausal.specs.Rows.{rowOf}
+use Rattle.clausal.specs.Clauses.{Row, clauses, rowBy, Clause, rowOf}
 use Rattle.clausal.specs.Totals.{clauseCeiling}
 use Rattle.clausal.proofs.Rows.{seenOf, row-at}
 use Rattle.convert.specs.Inner.Lists.{signed, pairIn, namesIn, ownList, seenList}
@@ -79,7 +75,11 @@ module _ (t : List ℕ) (cs ls : List (List ℕ)) (helpers : List ℕ) (ok : Wri
   -- the writer may walk the node
   pub walkable : Walkable (nodeAt t n)
   walkable = subst Walkable node-is (record {
-    children = (up (useOfA (nodeIn ns n .kind)) _ (ok .right .formed .below n .0), up (useOfB (nodeIn ns n .kind)) _ (ok .right .formed .below n .1));
+    children = (
+      up (useOfA (nodeIn ns n .kind)) _ (ok .right .formed .below n .0),
+      up (useOfB (nodeIn ns n .kind)) _
+          (ok .right .formed .below n .1),
+    );
     symbol = λ e. let r = ok .right .formed .symbols n e in (r .0, omega (arith, r .1, ok .right .options));
   })
     where
@@ -89,13 +89,16 @@ module _ (t : List ℕ) (cs ls : List (List ℕ)) (helpers : List ℕ) (ok : Wri
       up held.Symbol x h = tt
 
   -- the step leads to the clause
-  pub leads : (sign : Bool) (k : ℕ) (step : Step) → k < length (ownList (namesIn helpers) ns n sign) → length (ownList (namesIn helpers) ns n sign) < clauseCeiling
-      → step ≡ leadStep (nodeAt t n) cs ls helpers n sign k → LeadsTo (namesIn helpers) ns n sign (getD (ownList (namesIn helpers) ns n sign) k []) step
+  pub leads : (sign : Bool) (k : ℕ) (step : Step) → k < length (ownList (namesIn helpers) ns n sign)
+      → length (ownList (namesIn helpers) ns n sign) < clauseCeiling
+      → step ≡ leadStep (nodeAt t n) cs ls helpers n sign k
+      → LeadsTo (namesIn helpers) ns n sign (getD (ownList (namesIn helpers) ns n sign) k []) step
   leads sign k step h l e =
       subst⁻¹ (LeadsTo (namesIn helpers) ns n sign (getD (ownList (namesIn helpers) ns n sign) k []))
       (e ∙ ap (λ (m : Node). leadStep m cs ls helpers n sign k) (sym node-is)) (go (eqb (signed sign (pairIn ls n)) 0) refl)
     where
-      rule : rowOf clauses (namesIn helpers) ns n ≡ ruled ns cs helpers (seen-count ns cs ls helpers (ok .rows)) n (nodeIn ns n .kind) (nodeIn ns n .a) (nodeIn ns n .b)
+      rule : rowOf clauses (namesIn helpers) ns n ≡ ruled ns cs helpers (seen-count ns cs ls helpers (ok .rows)) n (nodeIn ns n .kind)
+          (nodeIn ns n .a) (nodeIn ns n .b)
       rule = row-at clauses (namesIn helpers) ns n (omega (arith, inside, length-nodesOf t)) (ok .right .formed .below n)
 
       go : (b : Bool) → eqb (signed sign (pairIn ls n)) 0 ≡ b
@@ -103,7 +106,9 @@ module _ (t : List ℕ) (cs ls : List (List ℕ)) (helpers : List ℕ) (ok : Wri
           (cond b none (stepBy (nodeIn ns n .kind) cs helpers (nodeIn ns n .a) (nodeIn ns n .b) sign k))
       go true f = no-literals (ownList (namesIn helpers) ns n sign) k (literals-are ns cs ls helpers (ok .rows) n sign l (eqb-true _ _ f))
       go false f =
-          subst⁻¹ (λ (r : Row (List Clause)). LeadsTo (namesIn helpers) ns n sign (getD (signed sign r) k []) (stepBy (nodeIn ns n .kind) cs helpers (nodeIn ns n .a) (nodeIn ns n .b) sign k)) rule
+          subst⁻¹ (λ (r : Row (List Clause)). LeadsTo (namesIn helpers) ns n sign (getD (signed sign r) k [])
+          (stepBy (nodeIn ns n .kind) cs helpers (nodeIn ns n .a) (nodeIn ns n .b) sign k)) rule
           (kind-leads ns cs helpers (seen-count ns cs ls helpers (ok .rows)) n (nodeIn ns n .kind) (nodeIn ns n .a) (nodeIn ns n .b) sign k
           (ok .right .formed .below n .0) (ok .right .formed .below n .1) (λ q. ok .right .formed .symbols n q .0)
-          (subst (λ (r : Row (List Clause)). k < length (signed sign r)) rule h) (subst (λ (r : Row (List Clause)). length (signed sign r) < clauseCeiling) rule l))
+          (subst (λ (r : Row (List Clause)). k < length (signed sign r)) rule h)
+          (subst (λ (r : Row (List Clause)). length (signed sign r) < clauseCeiling) rule l))

@@ -13,16 +13,17 @@ use borrow.Author.Tests.{eq-eqb, ne-eqb}
 use denote.Ref.{RefT}
 use Rattle.formula.specs.Inner.Held.{Marked, heldAt}
 use Rattle.formula.specs.Marks.{marksOf, markOf, halvesOf}
-use Rattle.formula.specs.Nodes.{nodeCount, nodesOf}
+use Rattle.formula.specs.Tables.{nodeCount, nodesOf}
 use Rattle.formula.specs.declared.mark.Halves.{Halves}
 use Rattle.formula.specs.declared.mark.Mark.{Mark}
 use Rattle.formula.specs.declared.node.Node.{Node}
 use Rattle.formula.proofs.Laws.Held.{heldAt-held}
 use Rattle.formula.proofs.Laws.Tables.{length-nodesOf}
-use Rattle.clausal.specs.Literals.{Clause, clauseBytes, clausesBytes}
+use Rattle.clausal.specs.Clauses.{Clause, clauseBytes, clausesBytes}
 use Rattle.clausal.specs.Totals.{clauseCeiling}
 use Rattle.convert.specs.Inner.Lists.{signed, pairIn, namesIn, ownList}
-use Rattle.convert.specs.Inner.Parts.{around, half, definedBy, definedTo, allParts, ClauseDue, PartDue, DefinitionDue, DefinitionsDue, OutputDue}
+use Rattle.convert.specs.Inner.Parts.{around, half, definedBy, definedTo, allParts, ClauseDue, PartDue, DefinitionDue, DefinitionsDue}
+use Rattle.convert.specs.Inner.Parts.{OutputDue}
 use Rattle.convert.specs.Inner.Written.{Writable, Fits, Put}
 use Rattle.convert.proofs.Laws.Counts.{own-count}
 use Rattle.convert.proofs.Laws.Parts.{clauses-append, short-next, fits-next, put-next, firstOf, nextOf, one-more}
@@ -53,7 +54,8 @@ module _ (t : List ℕ) (cs ls : List (List ℕ)) (helpers : List ℕ) where
     short : PartDue t cs ls helpers true n sign (r .now) at → length list < clauseCeiling
     short d = omega (arith, d .short, length-map list show)
 
-    pub writing-start : (count : ℕ) → PartDue t cs ls helpers true n sign (r .now) at → count ≡ signed sign (pairIn cs n) → Writing count at 0 r
+    pub writing-start : (count : ℕ) → PartDue t cs ls helpers true n sign (r .now) at → count ≡ signed sign (pairIn cs n)
+        → Writing count at 0 r
     writing-start count d e = record {
       due = d;
       counted = e ∙ own-count ns cs ls helpers (d .writable .rows) n sign ∙ omega (arith, short d);
@@ -77,15 +79,18 @@ module _ (t : List ℕ) (cs ls : List (List ℕ)) (helpers : List ℕ) where
         inside = w .due .inside;
         has = omega (arith, w .counted);
         short = short (w .due);
-        fits = fits-as (sym alone) (fits-next (firstOf show list) (nextOf show list) (length list) (one-more show list) k (omega (arith, w .counted)) r at fits next m (w .put));
+        fits = fits-as (sym alone) (fits-next (firstOf show list) (nextOf show list) (length list) (one-more show list) k
+            (omega (arith, w .counted)) r at fits next m (w .put));
       }
 
-      pub writing-step : (to : ℕ) (o : RefT (List ℕ)) → k < count → Put (clauseBytes (show (getD list k []))) m next to o → Writing count to (k + 1) o
+      pub writing-step : (to : ℕ) (o : RefT (List ℕ)) → k < count → Put (clauseBytes (show (getD list k []))) m next to o
+          → Writing count to (k + 1) o
       writing-step to o h p = record {
         due = w .due;
         counted = w .counted;
         within = omega arith;
-        put = put-next (firstOf show list) (nextOf show list) (length list) (one-more show list) k (omega (arith, w .counted)) r at fits next m (w .put) to o (put-as alone p);
+        put = put-next (firstOf show list) (nextOf show list) (length list) (one-more show list) k
+            (omega (arith, w .counted)) r at fits next m (w .put) to o (put-as alone p);
       }
 
       pub writing-end : count ≤ k → Put (clausesBytes (half name ns true n sign)) r at next m
@@ -100,7 +105,9 @@ module _ (t : List ℕ) (cs ls : List (List ℕ)) (helpers : List ℕ) where
   -- the definition of a node
   module _ (marks : List ℕ) (n : ℕ) (r : RefT (List ℕ)) (at : ℕ) (d : DefinitionDue t marks cs ls helpers n (r .now) at) where
     pub undefined : name n ≡ 0 → Put (clausesBytes (definedBy name ns n)) r at at r
-    undefined e = put-as (ap clausesBytes (ap (λ (b : Bool). cond b [] (half name ns (halvesOf (markOf ns n) .down) n true ++ half name ns (halvesOf (markOf ns n) .up) n false)) (eq-eqb (name n) 0 e))) (put-nothing r at)
+    undefined e = put-as (ap clausesBytes
+        (ap (λ (b : Bool). cond b [] (half name ns (halvesOf (markOf ns n) .down) n true ++ half name ns
+        (halvesOf (markOf ns n) .up) n false)) (eq-eqb (name n) 0 e))) (put-nothing r at)
 
     module _ (some : ¬ (name n ≡ 0)) (h : Halves) (e : h ≡ halvesOf (heldAt marks n)) where
       abbrev down : List Clause
@@ -114,7 +121,8 @@ module _ (t : List ℕ) (cs ls : List (List ℕ)) (helpers : List ℕ) where
 
       defined : definedBy name ns n ≡ down ++ up
       defined =
-          ap (λ (b : Bool). cond b [] (half name ns (halvesOf (markOf ns n) .down) n true ++ half name ns (halvesOf (markOf ns n) .up) n false)) (ne-eqb (name n) 0 some)
+          ap (λ (b : Bool). cond b [] (half name ns (halvesOf (markOf ns n) .down) n true ++ half name ns
+          (halvesOf (markOf ns n) .up) n false)) (ne-eqb (name n) 0 some)
           ∙ ap (λ (x : Halves). half name ns (x .down) n true ++ half name ns (x .up) n false) (sym marked)
 
       bytes : clausesBytes (definedBy name ns n) ≡ clausesBytes down ++ clausesBytes up
@@ -143,7 +151,8 @@ module _ (t : List ℕ) (cs ls : List (List ℕ)) (helpers : List ℕ) where
           fits = fits-right (clausesBytes down) (clausesBytes up) r at both p;
         }
 
-        pub put-defined : (to : ℕ) (o : RefT (List ℕ)) → Put (clausesBytes up) m next to o → Put (clausesBytes (definedBy name ns n)) r at to o
+        pub put-defined : (to : ℕ) (o : RefT (List ℕ)) → Put (clausesBytes up) m next to o
+            → Put (clausesBytes (definedBy name ns n)) r at to o
         put-defined to o q = put-as bytes (put-both (clausesBytes down) (clausesBytes up) r at both p q)
 
   -- the definitions, node by node
@@ -172,7 +181,8 @@ module _ (t : List ℕ) (cs ls : List (List ℕ)) (helpers : List ℕ) where
         fits = fits-next (definedTo name ns) (definedBy name ns) (length ns) more i h r at (w .due .fits) next m (w .put);
       }
 
-      pub defining-step : (to : ℕ) (o : RefT (List ℕ)) → i < length ns → Put (clausesBytes (definedBy name ns i)) m next to o → Defining (i + 1) to o
+      pub defining-step : (to : ℕ) (o : RefT (List ℕ)) → i < length ns → Put (clausesBytes (definedBy name ns i)) m next to o
+          → Defining (i + 1) to o
       defining-step to o h p = record {
         due = w .due;
         within = omega arith;

@@ -13,21 +13,17 @@ use Rattle.answer.specs.declared.Answer.the-variants.{Accepted}
 use Rattle.laws.specs.Lists.{upTo}
 use Rattle.laws.proofs.Arrays.{getD-pad}
 use Rattle.laws.proofs.Upward.{length-upTo, getD-upTo}
-use Rattle.formula.specs.Limits.{mostNodes}
+use Rattle.formula.specs.Tables.{mostNodes, nodeIn}
 use Rattle.formula.specs.Marks.{markOf, halvesOf}
-use Rattle.formula.specs.Nodes.{nodeIn}
-use Rattle.formula.specs.Sets.{renamed, operator, reached, mayRename, byteRight, setChecked}
+use Rattle.formula.specs.Checks.{renamed, operator, reached, mayRename, byteRight, setChecked}
 use Rattle.formula.specs.declared.mark.Halves.{Halves}
 use Rattle.formula.specs.declared.node.Node.{Node}
 use Rattle.formula.proofs.Laws.Sets.{RightSet, right-set}
-use Rattle.clausal.specs.Algebra.{clauses, joinAll}
-use Rattle.clausal.specs.Literals.{Literal, Clause}
+use Rattle.clausal.specs.Inner.Places.{contentsOf}
+use Rattle.clausal.specs.Clauses.{clauses, joinAll, Literal, Clause, Renaming, helperOf, nameOf, rowOf}
 use Rattle.clausal.specs.Output.{Part, rootPart, downPart, upPart, definition, definitions, partsOf, outputOf}
-use Rattle.clausal.specs.Places.{contentsOf}
-use Rattle.clausal.specs.Renamings.{Renaming, helperOf, nameOf}
-use Rattle.clausal.specs.Rows.{rowOf}
-use Rattle.clausal.proofs.Helpers.{helper-some, name-renamed, name-plain, renamed-inside}
 use Rattle.clausal.proofs.Places.{output-contents}
+use Rattle.clausal.proofs.Helpers.{helper-some, name-renamed, name-plain, renamed-inside}
 use Rattle.convert.specs.Inner.Helpers.{helpersOf}
 use Rattle.convert.specs.Inner.Lists.{namesIn, ownList}
 use Rattle.convert.specs.Inner.Parts.{around, partOf, half, definedBy, definedTo, allParts}
@@ -71,7 +67,8 @@ module _ (u : Renaming) (ns : List Node) where
     down-written : partOf (nameOf u) ns i true ≡ downPart clauses u ns i .content
     down-written =
         helped true
-        ∙ ap (λ (b : Bool). map (λ c. cond b [] (literal false (helperOf u i) ∷ []) ++ (c ++ [])) (ownList (nameOf u) ns i true)) (helper-some u i)
+        ∙ ap (λ (b : Bool). map (λ c. cond b [] (literal false (helperOf u i) ∷ []) ++ (c ++ [])) (ownList (nameOf u) ns i true))
+        (helper-some u i)
         ∙ down-join (literal false (helperOf u i)) (ownList (nameOf u) ns i true)
 
     up-written : partOf (nameOf u) ns i false ≡ upPart clauses u ns i .content
@@ -92,13 +89,16 @@ module _ (u : Renaming) (ns : List Node) where
       halves false false e = refl
 
       go : (b : Bool) → renamed (u .set) i ≡ b → definedBy (nameOf u) ns i
-          ≡ contentsOf (cond b (cond (halvesOf (markOf ns i) .down) (downPart clauses u ns i ∷ []) [] ++ cond (halvesOf (markOf ns i) .up) (upPart clauses u ns i ∷ []) []) [])
+          ≡ contentsOf (cond b (cond (halvesOf (markOf ns i) .down) (downPart clauses u ns i ∷ []) [] ++ cond (halvesOf (markOf ns i) .up)
+          (upPart clauses u ns i ∷ []) []) [])
       go true e =
-          ap (λ (b : Bool). cond b [] (half (nameOf u) ns (halvesOf (markOf ns i) .down) i true ++ half (nameOf u) ns (halvesOf (markOf ns i) .up) i false))
+          ap (λ (b : Bool). cond b [] (half (nameOf u) ns (halvesOf (markOf ns i) .down) i true ++ half (nameOf u) ns
+          (halvesOf (markOf ns i) .up) i false))
           (ap (λ (h : ℕ). eqb h 0) (name-renamed u i e) ∙ helper-some u i)
           ∙ halves (halvesOf (markOf ns i) .down) (halvesOf (markOf ns i) .up) e
       go false e =
-          ap (λ (b : Bool). cond b [] (half (nameOf u) ns (halvesOf (markOf ns i) .down) i true ++ half (nameOf u) ns (halvesOf (markOf ns i) .up) i false))
+          ap (λ (b : Bool). cond b [] (half (nameOf u) ns (halvesOf (markOf ns i) .down) i true ++ half (nameOf u) ns
+          (halvesOf (markOf ns i) .up) i false))
           (eq-eqb (nameOf u i) 0 (name-plain u i e))
 
   defined-to : (n : ℕ) → definedTo (nameOf u) ns n ≡ contentsOf (definitions clauses u ns n)
@@ -143,11 +143,13 @@ module _ (u : Renaming) (ns : List Node) where
   names-are helpers e size = λ j i. at i j
     where
       at : (i : ℕ) → namesIn helpers i ≡ nameOf u i
-      at i = ap (λ (l : List ℕ). getD l i 0) e ∙ getD-pad 0 mostNodes (upTo (λ before k. nameOf u k) (length ns)) i ∙ go (decLt i (length ns))
+      at i = ap (λ (l : List ℕ). getD l i 0) e ∙ getD-pad 0 mostNodes (upTo (λ before k. nameOf u k) (length ns)) i ∙ go
+          (decLt i (length ns))
         where
           go : Dec (i < length ns) → getD (upTo (λ before k. nameOf u k) (length ns)) i 0 ≡ nameOf u i
           go (yes h) = getD-upTo (λ before k. nameOf u k) 0 i (length ns) h
           go (no h) =
               let past : renamed (u .set) i ≡ false = ap (λ (b : ℕ). eqb b 1) (List·getD-eq-default (u .set) 0 (omega arith)) in
-              List·getD-eq-default (upTo (λ before k. nameOf u k) (length ns)) 0 (omega (arith, length-upTo (λ before k. nameOf u k) (length ns)))
+              List·getD-eq-default (upTo (λ before k. nameOf u k) (length ns)) 0
+              (omega (arith, length-upTo (λ before k. nameOf u k) (length ns)))
               ∙ sym (name-plain u i past)

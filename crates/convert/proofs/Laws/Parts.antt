@@ -13,7 +13,7 @@ use borrow.Author.Tests.{eq-eqb, ne-eqb, leb-true, leb-false}
 use denote.Ref.{RefT, at-last}
 use Rattle.laws.specs.Lists.{splice}
 use Rattle.laws.specs.Numbers.{little}
-use Rattle.clausal.specs.Literals.{Clause, literalBytes, clauseBytes, clausesBytes}
+use Rattle.clausal.specs.Clauses.{Clause, literalBytes, clauseBytes, clausesBytes}
 use Rattle.convert.specs.Inner.Lists.{shownAll}
 use Rattle.convert.specs.Inner.Parts.{helperLiteral, around}
 use Rattle.convert.specs.Inner.Written.{Fits, Put}

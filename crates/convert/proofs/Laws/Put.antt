@@ -6,9 +6,10 @@ use Prim.Native.Nat.{ℕ, _+_, _≤_}
 use native.Mathlib.Omega.{arith}
 use lib.ListN.{length, length-append}
 use denote.Ref.{RefT, at-last}
-use Rattle.laws.specs.Lists.{splice, Stored}
+use Rattle.laws.specs.Lists.{splice}
+use Rattle.laws.specs.Inner.Stores.{Stored}
 use Rattle.laws.proofs.Stored.{stored-nothing, stored-length, room-left, room-right, stored-both}
-use Rattle.clausal.specs.Literals.{Literal, Clause}
+use Rattle.clausal.specs.Clauses.{Literal, Clause}
 use Rattle.convert.specs.Inner.Lists.{shownAll}
 use Rattle.convert.specs.Inner.Written.{Fits, Put}
 

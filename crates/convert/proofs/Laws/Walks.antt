@@ -7,8 +7,7 @@ use Prim.Native.Nat.{ℕ, _*_, _-_, _<_, _≤_}
 use lib.Dec.{ltb}
 use borrow.Author.Tests.{lt-ltb, le-ltb}
 use Rattle.formula.specs.Inner.Right.{FieldBelow}
-use Rattle.formula.specs.Limits.{mostNodes}
-use Rattle.formula.specs.Records.{useOfA, useOfB}
+use Rattle.formula.specs.Tables.{mostNodes, useOfA, useOfB}
 use Rattle.formula.specs.declared.node.Kind.{Kind}
 use Rattle.formula.specs.declared.node.Node.{Node}
 use Rattle.convert.specs.Inner.Steps.{countIn, joinStep, joinsStep, stepBy, Walkable}

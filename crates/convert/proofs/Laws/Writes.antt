@@ -12,12 +12,9 @@ use denote.Ref.{RefT, at-last}
 use Rattle.laws.specs.Lists.{splice}
 use Rattle.laws.specs.Numbers.{little}
 use Rattle.laws.proofs.Bytes.{length-little}
-use Rattle.formula.specs.Limits.{mostNodes}
-use Rattle.formula.specs.Nodes.{nodeAt, nodeCount, nodesOf}
+use Rattle.formula.specs.Tables.{mostNodes, nodeAt, nodeCount, nodesOf}
 use Rattle.formula.specs.declared.node.Node.{Node}
-use Rattle.clausal.specs.Algebra.{Row, clauses, unitRow}
-use Rattle.clausal.specs.Literals.{Literal, Clause, wordOf, literalBytes}
-use Rattle.clausal.specs.Rows.{rowOf}
+use Rattle.clausal.specs.Clauses.{Row, clauses, unitRow, Literal, Clause, wordOf, literalBytes, rowOf}
 use Rattle.convert.specs.Inner.Lists.{signed, namesIn, ownList, seenList, shownAll}
 use Rattle.convert.specs.Inner.Steps.{Leadable, Lower, LeadsBy, LeadsTo, leadStep, wayClause}
 use Rattle.convert.specs.Inner.Written.{Fits, Due, Put}
@@ -63,7 +60,8 @@ module _ (name : ℕ → ℕ) (ns : List Node) (n : ℕ) where
       let e = ne-eqb (name n) 0 d in
       ap (λ (b : Bool). getD (signed sign (shows b)) k []) e ∙ go sign (subst (λ (b : Bool). k < length (signed sign (shows b))) e h)
     where
-      go : (z : Bool) → k < length (signed z (unitRow clauses (name n))) → getD (signed z (unitRow clauses (name n))) k [] ≡ record { plain = z; variable = name n } ∷ []
+      go : (z : Bool) → k < length (signed z (unitRow clauses (name n))) → getD (signed z (unitRow clauses (name n))) k []
+          ≡ record { plain = z; variable = name n } ∷ []
       go true g = only (record { plain = true; variable = name n } ∷ []) k g
       go false g = only (record { plain = false; variable = name n } ∷ []) k g
 

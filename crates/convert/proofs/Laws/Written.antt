@@ -7,19 +7,15 @@ use Prim.Native.Nat.{ℕ, _^_, _<_}
 use native.Mathlib.Omega.{arith}
 use lib.ListN.{length, replicate}
 use Rattle.laws.specs.Lists.{splice}
-use Rattle.answer.specs.Numbers.{refuses}
-use Rattle.answer.specs.Part.{Wrote, afterwards}
+use Rattle.answer.specs.Answers.{refuses, Wrote, afterwards}
 use Rattle.answer.specs.declared.Answer.{Answer}
 use Rattle.answer.specs.declared.Answer.the-variants.{Accepted}
-use Rattle.formula.specs.Limits.{mostNodes}
-use Rattle.formula.specs.Nodes.{nodeCount, nodesOf}
+use Rattle.formula.specs.Tables.{mostNodes, nodeCount, nodesOf}
 use Rattle.formula.specs.declared.node.Node.{Node}
 use Rattle.formula.proofs.Laws.Sets.{RightSet, right-set}
 use Rattle.formula.proofs.Laws.Tables.{length-nodesOf}
-use Rattle.clausal.specs.Literals.{Clause, clausesBytes}
+use Rattle.clausal.specs.Clauses.{Clause, clausesBytes, Renaming, renaming, nameOf, variablesOf, rowOf}
 use Rattle.clausal.specs.Output.{outputOf}
-use Rattle.clausal.specs.Renamings.{Renaming, renaming, nameOf, variablesOf}
-use Rattle.clausal.specs.Rows.{rowOf}
 use Rattle.clausal.specs.Totals.{Size, sizeOf, shown, capped, totals}
 use Rattle.clausal.proofs.Options.{row-options, totals-options}
 use Rattle.clausal.proofs.Totals.{totals-output}

@@ -6,22 +6,19 @@ use mathlib.Core.Path.{_≡_}
 use Prim.Native.Nat.{ℕ, _+_, _*_, _≤_}
 use lib.Dec.{ltb}
 use lib.ListN.{length}
-use Rattle.answer.specs.Numbers.{after, refuses}
-use Rattle.answer.specs.Part.{Wrote, afterwards, stored}
+use Rattle.answer.specs.Answers.{after, refuses, Wrote, afterwards, stored}
 use Rattle.answer.specs.declared.Answer.{Answer}
 use Rattle.answer.specs.declared.Answer.the-variants.{Accepted, Room}
 use Rattle.formula.specs.Inner.Held.{Marked}
 use Rattle.formula.specs.Inner.Right.{Right}
-use Rattle.formula.specs.Limits.{mostOptions}
-use Rattle.formula.specs.Nodes.{nodeCount, nodesOf}
-use Rattle.formula.specs.Sets.{setChecked}
+use Rattle.formula.specs.Tables.{mostOptions, nodeCount, nodesOf}
+use Rattle.formula.specs.Checks.{setChecked}
 use Rattle.formula.specs.declared.node.Node.{Node}
-use Rattle.clausal.specs.Literals.{clausesBytes}
+use Rattle.clausal.specs.Clauses.{clausesBytes, Renaming, renaming, variablesOf}
 use Rattle.clausal.specs.Output.{outputOf}
-use Rattle.clausal.specs.Renamings.{Renaming, renaming, variablesOf}
 use Rattle.clausal.specs.Totals.{Size, sizeOf, totals}
 use Rattle.totals.specs.Inner.Columns.{Ready}
-use Rattle.convert.specs.Converted.{ceilings}
+use Rattle.clausal.specs.Calls.{ceilings}
 
 -- R6.3: four bytes for each literal and for the zero of each clause
 abbrev pub bytesFor : Size → ℕ

@@ -4,9 +4,10 @@ use mathlib.Core.List.{List}
 use mathlib.Core.Path.{_≡_}
 use Prim.Native.Nat.{ℕ, _≤_}
 use lib.ListN.{length, replicate}
-use Rattle.laws.specs.Lists.{padTo, upTo}
-use Rattle.formula.specs.Limits.{mostNodes, mostOptions}
-use Rattle.clausal.specs.Renamings.{Renaming, nameOf}
+use Rattle.laws.specs.Lists.{upTo}
+use Rattle.laws.specs.Inner.Stores.{padTo}
+use Rattle.formula.specs.Tables.{mostNodes, mostOptions}
+use Rattle.clausal.specs.Clauses.{Renaming, nameOf}
 
 -- the helper as which each of the first n nodes is seen, 0 for one that is not renamed, and zeros behind
 abbrev pub helpersOf : Renaming → ℕ → List ℕ

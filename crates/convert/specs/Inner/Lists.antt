@@ -5,9 +5,7 @@ use mathlib.Core.List.{List, [], _∷_, _++_}
 use Prim.Native.Nat.{ℕ}
 use lib.ListN.{getD}
 use Rattle.formula.specs.declared.node.Node.{Node}
-use Rattle.clausal.specs.Algebra.{Row, clauses}
-use Rattle.clausal.specs.Literals.{Literal, Clause}
-use Rattle.clausal.specs.Rows.{seen, rowOf}
+use Rattle.clausal.specs.Clauses.{Row, clauses, Literal, Clause, seen, rowOf}
 use Rattle.totals.specs.Inner.Columns.{cell}
 
 -- P for a positive sign, N for a negative one

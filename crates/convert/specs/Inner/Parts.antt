@@ -7,9 +7,9 @@ use lib.Dec.{eqb}
 use lib.ListN.{length, getD}
 use Rattle.formula.specs.Inner.Held.{Marked}
 use Rattle.formula.specs.Marks.{markOf, halvesOf}
-use Rattle.formula.specs.Nodes.{nodeCount, nodesOf}
+use Rattle.formula.specs.Tables.{nodeCount, nodesOf}
 use Rattle.formula.specs.declared.node.Node.{Node}
-use Rattle.clausal.specs.Literals.{Clause, clauseBytes, clausesBytes}
+use Rattle.clausal.specs.Clauses.{Clause, clauseBytes, clausesBytes}
 use Rattle.clausal.specs.Totals.{clauseCeiling}
 use Rattle.convert.specs.Inner.Lists.{namesIn, ownList}
 use Rattle.convert.specs.Inner.Written.{Writable, Fits}
@@ -46,7 +46,8 @@ module _ (name : ℕ → ℕ) (ns : List Node) where
   allParts = partOf (length ns - 1) true ++ definedTo (length ns)
 
 -- clause k of a part is there, the part is below the ceiling, and there is room for the clause
-pub record ClauseDue (t : List ℕ) (cs ls : List (List ℕ)) (helpers : List ℕ) (n : ℕ) (sign : Bool) (k : ℕ) (out : List ℕ) (at : ℕ) : Type 0 where
+pub record ClauseDue (t : List ℕ) (cs ls : List (List ℕ)) (helpers : List ℕ) (n : ℕ) (sign : Bool) (k : ℕ) (out : List ℕ)
+    (at : ℕ) : Type 0 where
   pub writable : Writable t cs ls helpers
   pub inside : n < nodeCount t
   pub has : k < length (ownList (namesIn helpers) (nodesOf t) n sign)
@@ -54,7 +55,8 @@ pub record ClauseDue (t : List ℕ) (cs ls : List (List ℕ)) (helpers : List �
   pub fits : Fits (clauseBytes (around (namesIn helpers n) sign (getD (ownList (namesIn helpers) (nodesOf t) n sign) k []))) out at
 
 -- a part, where the output has it, is below the ceiling, and there is room for it
-pub record PartDue (t : List ℕ) (cs ls : List (List ℕ)) (helpers : List ℕ) (has : Bool) (n : ℕ) (sign : Bool) (out : List ℕ) (at : ℕ) : Type 0 where
+pub record PartDue (t : List ℕ) (cs ls : List (List ℕ)) (helpers : List ℕ) (has : Bool) (n : ℕ) (sign : Bool) (out : List ℕ)
+    (at : ℕ) : Type 0 where
   pub writable : Writable t cs ls helpers
   pub inside : n < nodeCount t
   pub short : length (half (namesIn helpers) (nodesOf t) has n sign) < clauseCeiling

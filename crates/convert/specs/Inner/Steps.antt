@@ -7,12 +7,11 @@ use Prim.Native.Nat.{ℕ, _*_, _-_, _/_, _%_, _<_, _≤_}
 use lib.Dec.{eqb, ltb}
 use lib.ListN.{length, getD}
 use Rattle.formula.specs.Inner.Right.{RightLength, Below}
-use Rattle.formula.specs.Limits.{mostNodes, mostOptions}
-use Rattle.formula.specs.Nodes.{nodeAt, nodeCount}
+use Rattle.formula.specs.Tables.{mostNodes, mostOptions, nodeAt, nodeCount}
 use Rattle.formula.specs.declared.node.Kind.{Kind}
 use Rattle.formula.specs.declared.node.Kind.the-variants as kind
 use Rattle.formula.specs.declared.node.Node.{Node}
-use Rattle.clausal.specs.Literals.{Clause}
+use Rattle.clausal.specs.Clauses.{Clause}
 use Rattle.clausal.specs.Totals.{clauseCeiling}
 use Rattle.convert.specs.Inner.Lists.{signed, pairIn, seenList}
 use Rattle.convert.specs.declared.step.Parts.the-variants.{Nothing, Literal, Left, Right, Both}

@@ -7,9 +7,8 @@ use lib.ListN.{length, getD}
 use denote.Ref.{RefT, at-last}
 use Rattle.laws.specs.Lists.{splice}
 use Rattle.formula.specs.Inner.Right.{Right}
-use Rattle.formula.specs.Nodes.{nodeCount, nodesOf}
-use Rattle.clausal.specs.Literals.{Clause, literalBytes}
-use Rattle.clausal.specs.Rows.{rowOf}
+use Rattle.formula.specs.Tables.{nodeCount, nodesOf}
+use Rattle.clausal.specs.Clauses.{Clause, literalBytes, rowOf}
 use Rattle.clausal.specs.Totals.{capped, clauseCeiling}
 use Rattle.totals.specs.Inner.Columns.{rowIn}
 use Rattle.convert.specs.Inner.Lists.{namesIn, shownAll}

@@ -10,18 +10,17 @@ use lib.Dec.{eqb, ltb}
 use lib.ListN.{length}
 use borrow.Author.Tests.{lt-ltb, ltb-true, ne-eqb}
 use Rattle.laws.specs.Numbers.{little}
-use Rattle.text.specs.Decimals.{decimal}
+use Rattle.text.specs.Texts.{decimal}
 use Rattle.text.specs.Inner.Numbers.{grownOf}
 use Rattle.text.specs.declared.number.Number.{Number}
 use Rattle.text.specs.declared.number.Number.the-variants.{Wrong, Is}
 use Rattle.text.proofs.Laws.Numbers.{More, here, digit, First, first, first-of-decimal, split-of-first, grown-more, grown-first, grown-of}
-use Rattle.clausal.specs.Literals.{Literal, Clause, literalBytes, clauseBytes, clausesBytes}
+use Rattle.clausal.specs.Clauses.{Literal, Clause, literalBytes, clauseBytes, clausesBytes}
 use Rattle.clausal.specs.Totals.{literalsIn}
-use Rattle.clausebytes.specs.Right as right
-use Rattle.clausebytes.specs.Right.{mostLiterals, Within}
-use Rattle.dimacs.specs.Written.{literalText}
-use Rattle.dimacs.specs.Grammar as grammar
-use Rattle.dimacs.specs.Grammar.{White, Body}
+use Rattle.clausebytes.specs.Words as right
+use Rattle.clausebytes.specs.Words.{mostLiterals, Within}
+use Rattle.dimacs.specs.Texts.{literalText, White, Body}
+use Rattle.dimacs.specs.Texts as grammar
 use Rattle.dimacs.specs.Inner.Table.{tokenOf, tokenBytes}
 use Rattle.dimacs.specs.Inner.States.{deadOf, takenOf, closeOf, openOf, begunOf, turnOf, moveOf}
 use Rattle.dimacs.specs.declared.phase.Phase.{Phase}

@@ -11,12 +11,12 @@ use Rattle.laws.specs.Automata.{output}
 use Rattle.laws.proofs.Stored.{stored-nothing}
 use Rattle.text.specs.Inner.Heads.{isDone, headOf}
 use Rattle.text.specs.declared.head.Head.{Head}
-use Rattle.answer.specs.Part.{stored}
+use Rattle.answer.specs.Answers.{stored}
 use Rattle.answer.specs.declared.Answer.the-variants.{Accepted, Room, Text}
 use Rattle.answer.proofs.Laws.Part.{stored-short, stored-fits}
 use Rattle.clausebytes.specs.Words.{roomOf}
 use Rattle.clausebytes.proofs.Encoded.{length-clauses}
-use Rattle.dimacs.specs.Grammar.{cnf}
+use Rattle.dimacs.specs.Texts.{cnf}
 use Rattle.dimacs.specs.Inner.States.{startOf, accepts, stepOf, stateFrom, bytesFrom, putsFor, writtenFrom, Walking, Walked}
 use Rattle.dimacs.specs.Calls.{readCall}
 use Rattle.dimacs.specs.declared.state.State.{State}

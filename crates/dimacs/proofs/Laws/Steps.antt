@@ -11,21 +11,19 @@ use lib.Dec.{eqb, ltb}
 use lib.ListN.{length, length-append}
 use borrow.Author.Tests.{ltb-true, eqb-true, eqb-false, eq-eqb}
 use Rattle.laws.specs.Automata.{run, output, Begins}
-use Rattle.text.specs.Decimals.{decimal}
-use Rattle.text.specs.Heads.{space}
+use Rattle.text.specs.Texts.{decimal, space}
 use Rattle.text.specs.Inner.Numbers.{grownOf}
 use Rattle.text.specs.declared.number.Number.{Number}
 use Rattle.text.specs.declared.number.Number.the-variants.{Wrong, Is}
 use Rattle.text.proofs.Laws.Decimals.{decimal-some}
 use Rattle.text.proofs.Laws.Numbers.{More, here, digit, First, first, grown-of}
 use Rattle.text.proofs.Laws.Readers.{Reader, Placed}
-use Rattle.clausal.specs.Literals.{Literal, Clause, literalBytes, clausesBytes}
+use Rattle.clausal.specs.Clauses.{Literal, Clause, literalBytes, clausesBytes}
 use Rattle.clausal.specs.Totals.{literalsIn}
-use Rattle.clausebytes.specs.Right as right
-use Rattle.clausebytes.specs.Right.{mostLiterals, Within}
-use Rattle.dimacs.specs.Written.{literalText}
-use Rattle.dimacs.specs.Grammar as grammar
-use Rattle.dimacs.specs.Grammar.{Body}
+use Rattle.clausebytes.specs.Words as right
+use Rattle.clausebytes.specs.Words.{mostLiterals, Within}
+use Rattle.dimacs.specs.Texts.{literalText, Body}
+use Rattle.dimacs.specs.Texts as grammar
 use Rattle.dimacs.specs.Inner.Table.{classOf, actOf, tokenOf, tokenBytes}
 use Rattle.dimacs.specs.Inner.States.{accepts, deadOf, takenOf, openOf, begunOf, moveOf, stepOf, putsOf}
 use Rattle.dimacs.specs.declared.phase.Phase.{Phase}

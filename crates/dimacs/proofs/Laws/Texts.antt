@@ -8,15 +8,15 @@ use Prim.Native.Nat.{ℕ, _≤_}
 use native.Mathlib.Omega.{arith}
 use lib.ListN.{length, drop}
 use Rattle.laws.specs.Automata.{Begins, Longest}
-use Rattle.text.specs.Heads.{Headed}
+use Rattle.text.specs.Texts.{Headed}
 use Rattle.text.specs.Inner.Heads.{isDone, headOf}
 use Rattle.text.specs.declared.head.Head.{Head}
 use Rattle.text.proofs.Headed.{head-within, head-continues, head-refuses, head-longest, head-dies}
 use Rattle.text.proofs.Laws.Readers.{goes, longest-same, longest-open, place-goes}
-use Rattle.clausal.specs.Literals.{Clause, clausesBytes}
+use Rattle.clausal.specs.Clauses.{Clause, clausesBytes}
 use Rattle.clausal.specs.Totals.{literalsIn}
-use Rattle.clausebytes.specs.Right.{mostVariables, mostClauses, Within}
-use Rattle.dimacs.specs.Grammar.{cnf, Follows, Text, Accepted}
+use Rattle.clausebytes.specs.Words.{mostVariables, mostClauses, Within}
+use Rattle.dimacs.specs.Texts.{cnf, Follows, Text, Accepted}
 use Rattle.dimacs.specs.Inner.States.{startOf, accepts, stepOf, stateFrom, bytesFrom}
 use Rattle.dimacs.specs.declared.state.State.{State}
 use Rattle.dimacs.proofs.Laws.Bodies.{Lang, Kept}

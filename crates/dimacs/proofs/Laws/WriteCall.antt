@@ -15,7 +15,7 @@ use Rattle.clausebytes.specs.declared.check.Checked.the-variants.{Wrong}
 use Rattle.clausebytes.proofs.Laws.Checking.{Found, refused-of-checked}
 use Rattle.clausebytes.proofs.Laws.Stand.{stand}
 use Rattle.clausebytes.proofs.Laws.Words.{length-words}
-use Rattle.dimacs.specs.Written.{headerLine, linesOf, writtenText}
+use Rattle.dimacs.specs.Texts.{headerLine, linesOf, writtenText}
 use Rattle.dimacs.specs.Inner.Words.{wordsText, textOf}
 use Rattle.dimacs.specs.Calls.{textLength, writeCall}
 use Rattle.dimacs.proofs.Laws.Written.{words-short, lines-stand}

@@ -8,13 +8,12 @@ use native.Mathlib.Omega.{arith}
 use lib.Dec.{eqb, ltb}
 use lib.ListN.{length, length-append}
 use borrow.Author.Tests.{lt-ltb, le-ltb, eq-eqb, ne-eqb, eqb-true, eqb-false, ltb-true, ltb-false}
-use Rattle.text.specs.Decimals.{digits, decimal}
+use Rattle.text.specs.Texts.{digits, decimal}
 use Rattle.text.proofs.Laws.Decimals.{length-decimal-le}
-use Rattle.clausal.specs.Literals.{Clause}
-use Rattle.clausebytes.specs.Words.{literalOf}
-use Rattle.clausebytes.specs.Right.{allWithin}
+use Rattle.clausal.specs.Clauses.{Clause}
+use Rattle.clausebytes.specs.Words.{literalOf, allWithin}
 use Rattle.clausebytes.proofs.Laws.Stand.{Stand, no-word, a-zero, a-literal, kept-within}
-use Rattle.dimacs.specs.Written.{headerLine, literalText, clauseLine, linesOf}
+use Rattle.dimacs.specs.Texts.{headerLine, literalText, clauseLine, linesOf}
 use Rattle.dimacs.specs.Inner.Words.{wordText, wordsText}
 
 -- the text of each kind of word

@@ -9,7 +9,7 @@ use borrow.Author.Tests.{not-true, not-false}
 use lib.ListN.{length}
 use Rattle.text.specs.Inner.Heads.{headOf}
 use Rattle.clausebytes.specs.Words.{roomOf}
-use Rattle.dimacs.specs.Grammar.{cnf}
+use Rattle.dimacs.specs.Texts.{cnf}
 use Rattle.dimacs.specs.Inner.States.{accepts}
 use Rattle.dimacs.specs.declared.state.State.{State}
 use Rattle.dimacs.proofs.Laws.ReadCall.{Seen, read-headless, nothing-written, read-refused, read-no-room, read-room, read-accepted}

@@ -4,7 +4,7 @@ use Prim.Native.Nat.{_+_}
 use borrow.Author.Needs.{needs}
 use lib.ListN.{length}
 use Rattle.clausebytes.proofs.Laws.Checking.{Found, found-of-checked}
-use Rattle.dimacs.specs.Written.{headerLine}
+use Rattle.dimacs.specs.Texts.{headerLine}
 use Rattle.dimacs.proofs.Laws.WriteCall.{length-wrong, found-small, found-lines, length-found}
 use Rattle.dimacs.proofs.text_length.Statement.{statement}
 use Rattle.dimacs.proofs.text_length.Tie as tie

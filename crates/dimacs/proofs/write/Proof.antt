@@ -5,7 +5,7 @@ use borrow.Author.Needs.{needs}
 use lib.ListN.{length}
 use Rattle.clausebytes.specs.Words.{wordsOf}
 use Rattle.clausebytes.proofs.Laws.Checking.{Found, found-of-checked}
-use Rattle.dimacs.specs.Written.{headerLine}
+use Rattle.dimacs.specs.Texts.{headerLine}
 use Rattle.dimacs.specs.Inner.Words.{wordsText}
 use Rattle.dimacs.proofs.Laws.WriteCall.{found-refused, found-small, found-lines, found-no-room, found-room, found-written}
 use Rattle.dimacs.proofs.write.Statement.{statement}

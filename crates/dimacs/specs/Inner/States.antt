@@ -12,7 +12,7 @@ use Rattle.laws.specs.Automata.{run, output}
 use Rattle.text.specs.Inner.Numbers.{grownOf}
 use Rattle.text.specs.declared.number.Number.{Number}
 use Rattle.text.specs.declared.number.Number.the-variants.{Wrong, Is}
-use Rattle.clausebytes.specs.Right.{mostLiterals}
+use Rattle.clausebytes.specs.Words.{mostLiterals}
 use Rattle.dimacs.specs.Inner.Table.{classOf, actOf, endsIn, tokenOf, tokenBytes, tokenFor}
 use Rattle.dimacs.specs.declared.phase.Phase.{Phase}
 use Rattle.dimacs.specs.declared.phase.Phase.the-variants.{Between, Closed, Sign, Plain, Negated, Dead}

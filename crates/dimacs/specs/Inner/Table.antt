@@ -5,7 +5,7 @@ use mathlib.Core.List.{List, []}
 use Prim.Native.Nat.{ℕ}
 use lib.Dec.{eqb, ltb}
 use Rattle.laws.specs.Numbers.{little}
-use Rattle.clausal.specs.Literals.{literalBytes}
+use Rattle.clausal.specs.Clauses.{literalBytes}
 use Rattle.dimacs.specs.declared.class.Class.{Class}
 use Rattle.dimacs.specs.declared.class.Class.the-variants.{Nought, Digit, Minus, White, Other}
 use Rattle.dimacs.specs.declared.phase.Phase.{Phase}

@@ -5,7 +5,7 @@ use mathlib.Core.List.{List, [], _∷_, _++_}
 use Prim.Native.Nat.{ℕ}
 use lib.Dec.{eqb}
 use Rattle.clausebytes.specs.Words.{wordsOf, literalOf}
-use Rattle.dimacs.specs.Written.{headerLine, literalText}
+use Rattle.dimacs.specs.Texts.{headerLine, literalText}
 
 abbrev pub wordText : ℕ → List ℕ
 wordText w = cond (eqb w 0) (48 ∷ 10 ∷ []) (literalText (literalOf w) ++ (32 ∷ []))

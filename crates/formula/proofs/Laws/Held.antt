@@ -9,9 +9,9 @@ use lib.Dec.{ltb}
 use lib.ListN.{length, getD, set, replicate, length-map, length-replicate, length-set, List·getD-map, replicate-append-replicate}
 use lib.Seq.{set-out}
 use borrow.Author.Tests.{ltb-true, ltb-false, lt-ltb, le-ltb}
-use Rattle.laws.specs.Lists.{padTo}
+use Rattle.laws.specs.Inner.Stores.{padTo}
 use Rattle.laws.proofs.Arrays.{getD-pad, pad-set}
-use Rattle.formula.specs.Limits.{mostNodes}
+use Rattle.formula.specs.Tables.{mostNodes}
 use Rattle.formula.specs.Marks.{unmarked, positive, joined, toA, toB, markIn, mark, passOn, rootMarked}
 use Rattle.formula.specs.Inner.Held.{byteOf, markBy, held, heldAt, heldMore, heldPassed}
 use Rattle.formula.specs.declared.mark.Mark.{Mark}
@@ -48,7 +48,8 @@ held-set ms i m h =
 pub heldMore-held : (ms : List Mark) (i : ℕ) (m : Mark) → heldMore (length ms) (held ms) i m ≡ held (mark i m ms)
 heldMore-held ms i m = go (ltb i (length ms)) refl
   where
-    go : (b : Bool) → ltb i (length ms) ≡ b → cond b (set (held ms) i (byteOf (joined (heldAt (held ms) i) m))) (held ms) ≡ held (mark i m ms)
+    go : (b : Bool) → ltb i (length ms) ≡ b → cond b (set (held ms) i (byteOf (joined (heldAt (held ms) i) m))) (held ms)
+        ≡ held (mark i m ms)
     go true e =
         ap (λ (x : Mark). set (held ms) i (byteOf (joined x m))) (heldAt-held ms i)
         ∙ held-set ms i (joined (markIn ms i) m) (ltb-true i (length ms) e)
@@ -59,7 +60,8 @@ heldPassed-held ms i n =
     let m : Mark = markIn ms i in
     let before : List Mark = mark (n .a) (toA (n .kind) m) ms in
     let len : length ms ≡ length before = sym (length-set ms (n .a) (joined (markIn ms (n .a)) (toA (n .kind) m))) in
-    ap (λ (x : Mark). heldMore (length ms) (heldMore (length ms) (held ms) (n .a) (toA (n .kind) x)) (n .b) (toB (n .kind) x)) (heldAt-held ms i)
+    ap (λ (x : Mark). heldMore (length ms) (heldMore (length ms) (held ms) (n .a) (toA (n .kind) x)) (n .b) (toB (n .kind) x))
+    (heldAt-held ms i)
     ∙ ap (λ (l : List ℕ). heldMore (length ms) l (n .b) (toB (n .kind) m)) (heldMore-held ms (n .a) (toA (n .kind) m))
     ∙ ap (λ (k : ℕ). heldMore k (held before) (n .b) (toB (n .kind) m)) len
     ∙ heldMore-held before (n .b) (toB (n .kind) m)

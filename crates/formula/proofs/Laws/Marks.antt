@@ -10,7 +10,7 @@ use lib.Dec.{T, eqb}
 use lib.ListN.{length, set, length-set}
 use lib.Seq.{getD-set-same, getD-set-other, set-getD}
 use borrow.Author.Tests.{eqb-true, eqb-false}
-use Rattle.formula.specs.Records.{useOfA, useOfB}
+use Rattle.formula.specs.Tables.{useOfA, useOfB}
 use Rattle.formula.specs.Inner.Right.{FieldBelow, Below}
 use Rattle.formula.specs.Marks.{unmarked, joined, turned, doubled, toA, toB, markIn, mark, passOn}
 use Rattle.formula.specs.Paths.{has}
@@ -86,7 +86,8 @@ module _ (i : ℕ) (m : Mark) (ms : List Mark) where
       go true e =
           let q : j ≡ i = eqb-true j i e in
           subst⁻¹ (λ (k : ℕ). T (has z (markIn (mark i m ms) k))) q
-          (subst⁻¹ (λ (x : Mark). T (has z x)) (mark-same h) (joined-left (markIn ms i) m z (subst (λ (k : ℕ). T (has z (markIn ms k))) q t)))
+          (subst⁻¹ (λ (x : Mark). T (has z x)) (mark-same h)
+          (joined-left (markIn ms i) m z (subst (λ (k : ℕ). T (has z (markIn ms k))) q t)))
       go false e = subst⁻¹ (λ (x : Mark). T (has z x)) (mark-other j (eqb-false j i e)) t
 
 -- one child marked by a node k: from k on nothing changes, nothing is lost, and the child has what it was given
@@ -145,7 +146,8 @@ pub record Passed (k : ℕ) (n : Node) (m : Mark) (before after : List Mark) : T
 
 pub passed : (k : ℕ) (n : Node) (m : Mark) (ms : List Mark) → k ≤ length ms → Below k n → Passed k n m ms (passOn n m ms)
 passed k n m ms h b =
-    let first : Gave k (n .a) (toA (n .kind) m) ms (mark (n .a) (toA (n .kind) m) ms) = gave k (n .a) (toA (n .kind) m) ms h (a-child (n .kind) m k (n .a) (b .0)) in
+    let first : Gave k (n .a) (toA (n .kind) m) ms (mark (n .a) (toA (n .kind) m) ms) = gave k (n .a) (toA (n .kind) m) ms h
+    (a-child (n .kind) m k (n .a) (b .0)) in
     let second : Gave k (n .b) (toB (n .kind) m) (mark (n .a) (toA (n .kind) m) ms) (passOn n m ms) =
     gave k (n .b) (toB (n .kind) m) (mark (n .a) (toA (n .kind) m) ms) (omega (arith, first .size)) (b-child (n .kind) m k (n .b) (b .1)) in
     record {

@@ -5,8 +5,7 @@ use mathlib.Core.List.{List}
 use Prim.Native.Nat.{ℕ, zero, suc, _+_, _-_, _≤_, _<_}
 use native.Mathlib.Omega.{arith}
 use lib.ListN.{length, set, replicate, length-set, length-replicate}
-use Rattle.formula.specs.Limits.{mostNodes}
-use Rattle.formula.specs.Nodes.{nodeAt, nodeCount, nodesOf, nodeIn}
+use Rattle.formula.specs.Tables.{mostNodes, nodeAt, nodeCount, nodesOf, nodeIn}
 use Rattle.formula.specs.Marks.{unmarked, positive, markIn, passOn, downFrom, rootMarked, marksOf}
 use Rattle.formula.specs.Inner.Held.{held, heldPassed}
 use Rattle.formula.proofs.Laws.Held.{heldPassed-held, held-root}

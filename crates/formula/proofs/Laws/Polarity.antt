@@ -11,13 +11,15 @@ use lib.ListN.{length, set, replicate, length-set, length-replicate, List·getD-
 use lib.Seq.{getD-set-same, getD-set-other, set-out}
 use borrow.Author.Tests.{eqb-true, eqb-false, ltb-true, ltb-false}
 use Rattle.answer.specs.declared.Answer.the-variants.{Accepted}
-use Rattle.formula.specs.Nodes.{nodesOf, nodeIn}
+use Rattle.formula.specs.Tables.{nodesOf, nodeIn}
 use Rattle.formula.specs.Checks.{checked}
-use Rattle.formula.specs.Marks.{unmarked, positive, joined, turned, doubled, toA, toB, markIn, mark, passOn, downFrom, rootMarked, marksOf, markOf}
+use Rattle.formula.specs.Marks.{unmarked, positive, joined, turned, doubled, toA, toB, markIn, mark, passOn, downFrom, rootMarked}
+use Rattle.formula.specs.Marks.{marksOf, markOf}
 use Rattle.formula.specs.Paths.{Reached, root, not-a, and-a, and-b, or-a, or-b, implies-a, implies-b, equivalent-a, equivalent-b, has}
 use Rattle.formula.specs.Inner.Right.{Below, WellFormed}
 use Rattle.formula.proofs.Laws.WellFormed.{accepted-well-formed}
-use Rattle.formula.proofs.Laws.Marks.{Le, joined-either, turned-has, doubled-has, doubled-either, unmarked-has, mark-same, mark-other, Passed, passed}
+use Rattle.formula.proofs.Laws.Marks.{Le, joined-either, turned-has, doubled-has, doubled-either, unmarked-has, mark-same}
+use Rattle.formula.proofs.Laws.Marks.{mark-other, Passed, passed}
 use Rattle.formula.specs.declared.mark.Mark.{Mark}
 use Rattle.formula.specs.declared.node.Kind.{Kind}
 use Rattle.formula.specs.declared.node.Kind.the-variants.{False, True, Symbol, Not, And, Or, Implies, Equivalent, Unknown}
@@ -64,7 +66,8 @@ module _ (ns : List Node) where
     where
       go : (b : Bool) → eqb j i ≡ b → (l : Bool) → ltb i (length ms) ≡ l → Reached ns z j
       go false e l q = s z j (subst (λ (x : Mark). T (has z x)) (mark-other i m ms j (eqb-false j i e)) t)
-      go true e false q = s z j (subst (λ (l : List Mark). T (has z (markIn l j))) (set-out ms i (joined (markIn ms i) m) (ltb-false i (length ms) q)) t)
+      go true e false q = s z j (subst (λ (l : List Mark). T (has z (markIn l j)))
+          (set-out ms i (joined (markIn ms i) m) (ltb-false i (length ms) q)) t)
       go true e true q =
           let same : j ≡ i = eqb-true j i e in
           let u : T (has z (joined (markIn ms i) m)) =
@@ -94,13 +97,21 @@ module _ (ns : List Node) where
       go : (b : Bool) → eqb i (length ns - 1) ≡ b → (l : Bool) → ltb i (length ns) ≡ l → Reached ns z i
       go b e false q =
           let past : length (rootMarked (length ns)) ≤ i =
-          omega (arith, length-set (replicate (length ns) unmarked) (length ns - 1) positive, length-replicate (length ns) unmarked, ltb-false i (length ns) q) in
+          omega (
+            arith,
+            length-set (replicate (length ns) unmarked) (length ns - 1) positive,
+            length-replicate (length ns) unmarked,
+            ltb-false i (length ns) q,
+          ) in
           absurd (unmarked-has z (subst (λ (x : Mark). T (has z x)) (List·getD-eq-default (rootMarked (length ns)) unmarked past) t))
       go true e true q =
           let same : i ≡ length ns - 1 = eqb-true i (length ns - 1) e in
-          let in-range : length ns - 1 < length (replicate (length ns) unmarked) = omega (arith, length-replicate (length ns) unmarked, ltb-true i (length ns) q) in
+          let in-range : length ns - 1 < length (replicate (length ns) unmarked) = omega
+          (arith, length-replicate (length ns) unmarked, ltb-true i (length ns) q) in
           subst⁻¹ (Reached ns z) same
-          (is-root z (subst (λ (x : Mark). T (has z x)) (ap (markIn (rootMarked (length ns))) same ∙ getD-set-same (replicate (length ns) unmarked) (length ns - 1) positive unmarked in-range) t))
+          (is-root z (subst (λ (x : Mark). T (has z x))
+          (ap (markIn (rootMarked (length ns))) same ∙ getD-set-same (replicate (length ns) unmarked)
+          (length ns - 1) positive unmarked in-range) t))
       go false e true q =
           let n : i ≢ length ns - 1 = eqb-false i (length ns - 1) e in
           let f : markIn (rootMarked (length ns)) i ≡ unmarked =
@@ -153,10 +164,12 @@ module _ (ns : List Node) where
     length-root = length-set (replicate (length ns) unmarked) (length ns - 1) positive ∙ length-replicate (length ns) unmarked
 
     -- past the last node stands false, which passes nothing on
-    closed-start : (to : Kind → Mark → Mark) (child : Node → ℕ) → ((m : Mark) → to False m ≡ unmarked) → Closed to child (length ns) (rootMarked (length ns))
+    closed-start : (to : Kind → Mark → Mark) (child : Node → ℕ) → ((m : Mark) → to False m ≡ unmarked)
+        → Closed to child (length ns) (rootMarked (length ns))
     closed-start to child e i g z t =
         let past : nodeIn ns i ≡ nodeIn [] i = List·getD-eq-default ns (nodeIn [] i) g in
-        absurd (unmarked-has z (subst (λ (x : Mark). T (has z x)) (ap (λ (n : Node). to (n .kind) (markIn (rootMarked (length ns)) i)) past ∙ e _) t))
+        absurd (unmarked-has z (subst (λ (x : Mark). T (has z x))
+        (ap (λ (n : Node). to (n .kind) (markIn (rootMarked (length ns)) i)) past ∙ e _) t))
 
     closed : BothClosed 0 (marksOf ns)
     closed = closed-down (length ns) (rootMarked (length ns)) (omega (arith, length-root)) (record {
@@ -174,14 +187,18 @@ module _ (ns : List Node) where
     pub root-positive : 0 < length ns → T (has true (markOf ns (length ns - 1)))
     root-positive h =
         let e : markIn (rootMarked (length ns)) (length ns - 1) ≡ positive =
-        getD-set-same (replicate (length ns) unmarked) (length ns - 1) positive unmarked (omega (arith, length-replicate (length ns) unmarked)) in
-        rises-down (length ns) (rootMarked (length ns)) (omega (arith, length-root)) (length ns - 1) true (subst⁻¹ (λ (m : Mark). T (has true m)) e tt)
+        getD-set-same (replicate (length ns) unmarked) (length ns - 1) positive unmarked
+        (omega (arith, length-replicate (length ns) unmarked)) in
+        rises-down (length ns) (rootMarked (length ns)) (omega (arith, length-root)) (length ns - 1) true
+        (subst⁻¹ (λ (m : Mark). T (has true m)) e tt)
 
     -- a mark follows every path
-    to-a : (i : ℕ) (z : Bool) {kd : Kind} → nodeIn ns i .kind ≡ kd → T (has z (toA kd (markOf ns i))) → T (has z (markOf ns (nodeIn ns i .a)))
+    to-a : (i : ℕ) (z : Bool) {kd : Kind} → nodeIn ns i .kind ≡ kd → T (has z (toA kd (markOf ns i)))
+        → T (has z (markOf ns (nodeIn ns i .a)))
     to-a i z e t = passed-a i z (subst⁻¹ (λ (k : Kind). T (has z (toA k (markOf ns i)))) e t)
 
-    to-b : (i : ℕ) (z : Bool) {kd : Kind} → nodeIn ns i .kind ≡ kd → T (has z (toB kd (markOf ns i))) → T (has z (markOf ns (nodeIn ns i .b)))
+    to-b : (i : ℕ) (z : Bool) {kd : Kind} → nodeIn ns i .kind ≡ kd → T (has z (toB kd (markOf ns i)))
+        → T (has z (markOf ns (nodeIn ns i .b)))
     to-b i z e t = passed-b i z (subst⁻¹ (λ (k : Kind). T (has z (toB k (markOf ns i)))) e t)
 
     marked : 0 < length ns → {z : Bool} {i : ℕ} → Reached ns z i → T (has z (markOf ns i))

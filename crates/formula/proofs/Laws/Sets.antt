@@ -9,9 +9,9 @@ use lib.Dec.{eqb, ltb}
 use lib.ListN.{length}
 use borrow.Author.Tests.{eqb-true, ltb-false}
 use Rattle.laws.proofs.First.{first-before}
-use Rattle.answer.specs.Numbers.{refuses}
+use Rattle.answer.specs.Answers.{refuses}
 use Rattle.answer.proofs.Laws.Order.{passes}
-use Rattle.formula.specs.Sets.{byteRight, firstWrongByte, setChecked}
+use Rattle.formula.specs.Checks.{byteRight, firstWrongByte, setChecked}
 use Rattle.answer.specs.declared.Answer.the-variants.{Accepted, Set}
 use Rattle.formula.specs.declared.node.Node.{Node}
 
@@ -24,8 +24,13 @@ module _ (ns : List Node) (s : List ℕ) where
   passed e = go (eqb (length s) (length ns)) refl e
     where
       go : (b : Bool) → eqb (length s) (length ns) ≡ b
-          → refuses (cond b (cond (ltb (firstWrongByte ns s) (length ns)) (Set (firstWrongByte ns s)) (Accepted 0 0)) (Set (length ns))) ≡ false → Passed
-      go true p q = record { size = p; bytes = passes (ltb (firstWrongByte ns s) (length ns)) (Set (firstWrongByte ns s)) (Accepted 0 0) (λ z. refl) q .0 }
+          → refuses (cond b (cond (ltb (firstWrongByte ns s) (length ns)) (Set (firstWrongByte ns s)) (Accepted 0 0)) (Set (length ns)))
+          ≡ false → Passed
+      go true p q = record {
+        size = p;
+        bytes = passes (ltb (firstWrongByte ns s) (length ns)) (Set (firstWrongByte ns s)) (Accepted 0 0)
+            (λ z. refl) q .0;
+      }
       go false p q = let z : _≡_ {A = ℕ} 0 1 = cc in absurd (omega arith)
 
   -- a check that does not refuse accepts, with two zeros

@@ -5,7 +5,7 @@ use mathlib.Core.List.{List}
 use Prim.Native.Nat.{ℕ, _<_}
 use lib.ListN.{length}
 use Rattle.laws.proofs.Upward.{length-upTo, getD-upTo}
-use Rattle.formula.specs.Nodes.{nodeAt, nodeCount, nodesOf, nodeIn}
+use Rattle.formula.specs.Tables.{nodeAt, nodeCount, nodesOf, nodeIn}
 
 pub length-nodesOf : (t : List ℕ) → length (nodesOf t) ≡ nodeCount t
 length-nodesOf t = length-upTo (λ before i. nodeAt t i) (nodeCount t)

@@ -11,11 +11,10 @@ use borrow.Author.Tests.{eqb-true, eqb-false, ltb-true, ltb-false, leb-true, not
 use Rattle.answer.specs.declared.Answer.the-variants.{Accepted, TableLength, Options, Record}
 use Rattle.laws.proofs.Choices.{neither}
 use Rattle.laws.proofs.First.{first-before, first-fails}
-use Rattle.answer.specs.Numbers.{refuses}
+use Rattle.answer.specs.Answers.{refuses}
 use Rattle.answer.proofs.Laws.Order.{passes}
-use Rattle.formula.specs.Limits.{nodeBytes, mostNodes, mostOptions}
-use Rattle.formula.specs.Nodes.{nodeAt, nodeCount, nodesOf, nodeIn}
-use Rattle.formula.specs.Records.{known, useOfA, useOfB, fieldRight, faultOf}
+use Rattle.formula.specs.Tables.{nodeBytes, mostNodes, mostOptions, nodeAt, nodeCount, nodesOf, nodeIn, known, useOfA, useOfB}
+use Rattle.formula.specs.Tables.{fieldRight, faultOf}
 use Rattle.formula.specs.Inner.Right.{FieldBelow, Below, WellFormed, RightLength}
 use Rattle.formula.specs.Checks.{lengthWrong, recordRight, firstWrong, checked}
 use Rattle.formula.proofs.Laws.Tables.{length-nodesOf, nodeIn-nodesOf}
@@ -38,7 +37,8 @@ record Passed (t : List ℕ) (v : ℕ) : Type 0 where
 
 passed : (t : List ℕ) (v : ℕ) → refuses (checked t v) ≡ false → Passed t v
 passed t v e =
-    let wrong : ltb (firstWrong t v) (nodeCount t) ≡ true → refuses (Record (faultOf v (firstWrong t v) (nodeAt t (firstWrong t v))) (firstWrong t v)) ≡ true =
+    let wrong : ltb (firstWrong t v) (nodeCount t) ≡ true → refuses
+    (Record (faultOf v (firstWrong t v) (nodeAt t (firstWrong t v))) (firstWrong t v)) ≡ true =
     λ p. ap not (first-fails (recordRight t v) (nodeCount t) (ltb-true (firstWrong t v) (nodeCount t) p)) in
     let e₁ = passes (lengthWrong (length t)) TableLength _ (λ p. refl) e in
     let e₂ = passes (ltb mostOptions v) Options _ (λ p. refl) (e₁ .1) in
@@ -75,7 +75,8 @@ pub length-right : (t : List ℕ) (v : ℕ) → refuses (checked t v) ≡ false 
 length-right t v e = right-length (length t) (passed t v e .lengths)
 
 -- what a right record says
-right-record : (v i : ℕ) (n : Node) → faultOf v i n ≡ 0 → (fieldRight v i (useOfA (n .kind)) (n .a) ≡ true) × (fieldRight v i (useOfB (n .kind)) (n .b) ≡ true)
+right-record : (v i : ℕ) (n : Node) → faultOf v i n ≡ 0 → (fieldRight v i (useOfA (n .kind)) (n .a) ≡ true)
+    × (fieldRight v i (useOfB (n .kind)) (n .b) ≡ true)
 right-record v i n e = go (known (n .kind)) (fieldRight v i (useOfA (n .kind)) (n .a)) (fieldRight v i (useOfB (n .kind)) (n .b)) e
   where
     go : (k a b : Bool) → _≡_ {A = ℕ} (cond k (cond a (cond b 0 3) 3) 3) 0 → (a ≡ true) × (b ≡ true)
@@ -126,7 +127,8 @@ accepted-well-formed t v x y e = record {
         → (0 < nodeIn (nodesOf t) i .a) × (nodeIn (nodesOf t) i .a ≤ v)
     symbol i q true p =
         let r = right-record v i (nodeIn (nodesOf t) i) (right i (ltb-true i (nodeCount t) p)) in
-        symbol-right v i (nodeIn (nodesOf t) i .a) (subst (λ (k : Kind). fieldRight v i (useOfA k) (nodeIn (nodesOf t) i .a) ≡ true) q (r .0))
+        symbol-right v i (nodeIn (nodesOf t) i .a)
+        (subst (λ (k : Kind). fieldRight v i (useOfA k) (nodeIn (nodesOf t) i .a) ≡ true) q (r .0))
     symbol i q false p =
         let f = ap (λ (n : Node). n .kind) (past (nodesOf t) i (omega (arith, length-nodesOf t, ltb-false i (nodeCount t) p))) in
         let z : _≡_ {A = ℕ} 0 1 = cc in

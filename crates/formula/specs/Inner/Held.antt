@@ -6,11 +6,10 @@ use mathlib.Core.Path.{_≡_}
 use Prim.Native.Nat.{ℕ, _+_, _/_, _%_, _<_}
 use lib.Dec.{eqb, ltb}
 use lib.ListN.{length, getD, set, replicate}
-use Rattle.laws.specs.Lists.{padTo}
+use Rattle.laws.specs.Inner.Stores.{padTo}
 use Rattle.formula.specs.Inner.Right.{RightLength}
-use Rattle.formula.specs.Limits.{mostNodes}
+use Rattle.formula.specs.Tables.{mostNodes, nodesOf, nodeCount}
 use Rattle.formula.specs.Marks.{joined, toA, toB, marksOf}
-use Rattle.formula.specs.Nodes.{nodesOf, nodeCount}
 use Rattle.formula.specs.declared.mark.Mark.{Mark}
 use Rattle.formula.specs.declared.node.Node.{Node}
 

@@ -4,9 +4,7 @@ use mathlib.Core.List.{List}
 use mathlib.Core.Path.{_≡_}
 use Prim.Native.Nat.{ℕ, _<_, _≤_, _/_, _%_}
 use lib.ListN.{length}
-use Rattle.formula.specs.Limits.{nodeBytes, mostTable, mostOptions}
-use Rattle.formula.specs.Nodes.{nodesOf, nodeIn}
-use Rattle.formula.specs.Records.{useOfA, useOfB}
+use Rattle.formula.specs.Tables.{nodeBytes, mostTable, mostOptions, nodesOf, nodeIn, useOfA, useOfB}
 use Rattle.formula.specs.declared.node.Kind.the-variants as kind
 use Rattle.formula.specs.declared.node.Node.{Node}
 use Rattle.formula.specs.declared.node.Use.{Use}

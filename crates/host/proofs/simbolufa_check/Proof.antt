@@ -1,7 +1,7 @@
 -- `host::simbolufa_check` meets its contract: a wrong answer part is looked at first, and the check's answer is given. Assumes nothing.
 use mathlib.Core.Path.{ap}
 use borrow.Author.Needs.{needs}
-use Rattle.answer.specs.Part.{Wrote, only}
+use Rattle.answer.specs.Answers.{Wrote, only}
 use Rattle.answer.proofs.Laws.Part.{leaves-wrong, leaves-right, part-right}
 use Rattle.formula.specs.Checks.{checked}
 use Rattle.host.proofs.simbolufa_check.Statement.{statement}

@@ -2,9 +2,9 @@
 use mathlib.Core.List.{List}
 use Prim.Native.Nat.{ℕ}
 use borrow.Author.Needs.{needs}
-use Rattle.answer.specs.Part.{Wrote}
+use Rattle.answer.specs.Answers.{Wrote}
 use Rattle.answer.proofs.Laws.Part.{leaves-wrong, leaves-right, part-right}
-use Rattle.choose.specs.Chosen.{chosenBy}
+use Rattle.clausal.specs.Calls.{chosenBy}
 use Rattle.host.proofs.simbolufa_choose.Statement.{statement}
 use Rattle.host.proofs.simbolufa_choose.Tie as tie
 
@@ -35,7 +35,8 @@ answered c =
     let test = if1 .before in
     let known = test .before .before in
     let start = known .before .before .before in
-    leaves-right (start .args .answer .now) (start .args .set .now) (wrote start) (record { answer = call .choose .result; output = call .choose .last .1 .1 .1 .0 })
+    leaves-right (start .args .answer .now) (start .args .set .now) (wrote start)
+    (record { answer = call .choose .result; output = call .choose .last .1 .1 .1 .0 })
     _ (test .is-part-wrong .ensures) (if1 .if1 .left) (call .choose .ensures) (give .give .ensures)
 
 pub simbolufa-choose-spec : {M : Type 1} → statement M

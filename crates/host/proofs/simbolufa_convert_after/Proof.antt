@@ -2,9 +2,9 @@
 use mathlib.Core.List.{List}
 use Prim.Native.Nat.{ℕ}
 use borrow.Author.Needs.{needs}
-use Rattle.answer.specs.Part.{Wrote}
+use Rattle.answer.specs.Answers.{Wrote}
 use Rattle.answer.proofs.Laws.Part.{leaves-wrong, leaves-right, part-right}
-use Rattle.convert.specs.Converted.{convertedAfter}
+use Rattle.clausal.specs.Calls.{convertedAfter}
 use Rattle.host.proofs.simbolufa_convert_after.Statement.{statement}
 use Rattle.host.proofs.simbolufa_convert_after.Tie as tie
 
@@ -35,7 +35,8 @@ answered c =
     let test = if1 .before in
     let known = test .before .before in
     let start = known .before .before .before .before in
-    leaves-right (start .args .answer .now) (start .args .out .now) (wrote start) (record { answer = call .convert-after .result; output = call .convert-after .last .1 .1 .1 .1 .0 })
+    leaves-right (start .args .answer .now) (start .args .out .now) (wrote start)
+    (record { answer = call .convert-after .result; output = call .convert-after .last .1 .1 .1 .1 .0 })
     _ (test .is-part-wrong .ensures) (if1 .if1 .left) (call .convert-after .ensures) (give .give .ensures)
 
 pub simbolufa-convert-after-spec : {M : Type 1} → statement M

@@ -1,9 +1,9 @@
 -- `host::simbolufa_measure` meets its contract: a wrong answer part is looked at first, and the totals are given. Assumes nothing.
 use mathlib.Core.Path.{ap}
 use borrow.Author.Needs.{needs}
-use Rattle.answer.specs.Part.{Wrote, only}
+use Rattle.answer.specs.Answers.{Wrote, only}
 use Rattle.answer.proofs.Laws.Part.{leaves-wrong, leaves-right, part-right}
-use Rattle.totals.specs.Measured.{measured}
+use Rattle.clausal.specs.Calls.{measured}
 use Rattle.host.proofs.simbolufa_measure.Statement.{statement}
 use Rattle.host.proofs.simbolufa_measure.Tie as tie
 

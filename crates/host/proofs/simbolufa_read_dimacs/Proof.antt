@@ -2,7 +2,7 @@
 use mathlib.Core.List.{List}
 use Prim.Native.Nat.{ℕ}
 use borrow.Author.Needs.{needs}
-use Rattle.answer.specs.Part.{Wrote}
+use Rattle.answer.specs.Answers.{Wrote}
 use Rattle.answer.proofs.Laws.Part.{leaves-wrong, leaves-right, part-right}
 use Rattle.dimacs.specs.Calls.{readCall}
 use Rattle.host.proofs.simbolufa_read_dimacs.Statement.{statement}
@@ -35,7 +35,8 @@ answered c =
     let test = if1 .before in
     let known = test .before .before in
     let start = known .before .before .before in
-    leaves-right (start .args .answer .now) (start .args .clauses .now) (wrote start) (record { answer = call .read .result; output = call .read .last .1 .0 })
+    leaves-right (start .args .answer .now) (start .args .clauses .now) (wrote start)
+    (record { answer = call .read .result; output = call .read .last .1 .0 })
     _ (test .is-part-wrong .ensures) (if1 .if1 .left) (call .read .ensures) (give .give .ensures)
 
 pub simbolufa-read-dimacs-spec : {M : Type 1} → statement M

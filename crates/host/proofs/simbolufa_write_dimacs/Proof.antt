@@ -4,7 +4,7 @@ use Prim.Native.Nat.{ℕ, _<_}
 use native.Mathlib.Omega.{arith}
 use lib.ListN.{getD}
 use borrow.Author.Needs.{needs}
-use Rattle.answer.specs.Part.{Wrote}
+use Rattle.answer.specs.Answers.{Wrote}
 use Rattle.answer.proofs.Laws.Part.{leaves-wrong, leaves-right, part-right}
 use Rattle.dimacs.specs.Calls.{writeCall}
 use Rattle.host.proofs.simbolufa_write_dimacs.Statement.{statement}
@@ -21,8 +21,11 @@ part-wrong : tie.Need-returns
 part-wrong c =
     let test = c .before in
     let known = test .before .before in
-    let start = known .before .before .before in
-    (leaves-wrong (start .args .answer .now) (start .args .text .now) (wrote start) _ (test .is-part-wrong .ensures) (c .if1 .taken), lent (known .before .before))
+    let start = known .before .before .before in (
+      leaves-wrong (start .args .answer .now) (start .args .text .now) (wrote start) _ (test .is-part-wrong .ensures) (c .if1 .taken),
+      lent
+          (known .before .before),
+    )
 
 give-asked : tie.Need-give-requires
 give-asked c κs =
@@ -41,7 +44,8 @@ answered c =
     let test = if1 .before in
     let known = test .before .before in
     let start = known .before .before .before in (
-      leaves-right (start .args .answer .now) (start .args .text .now) (wrote start) (record { answer = call .write .result; output = call .write .last .1 .1 .0 })
+      leaves-right (start .args .answer .now) (start .args .text .now) (wrote start)
+          (record { answer = call .write .result; output = call .write .last .1 .1 .0 })
           _ (test .is-part-wrong .ensures) (if1 .if1 .left) (call .write .ensures) (give .give .ensures),
       lent (known .before .before),
     )

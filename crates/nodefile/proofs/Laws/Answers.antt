@@ -8,13 +8,12 @@ use native.Mathlib.Omega.{arith}
 use lib.ListN.{length}
 use borrow.Author.Tests.{lt-ltb, le-ltb}
 use Rattle.laws.specs.Lists.{splice}
-use Rattle.answer.specs.Part.{Wrote, afterwards, stored}
+use Rattle.answer.specs.Answers.{Wrote, afterwards, stored}
 use Rattle.answer.specs.declared.Answer.{Answer}
 use Rattle.answer.specs.declared.Answer.the-variants.{Accepted, Room, Line}
 use Rattle.answer.proofs.Laws.Part.{stored-short, stored-fits}
-use Rattle.formula.specs.Limits.{nodeBytes}
-use Rattle.nodefile.specs.Lines.{optionCount}
-use Rattle.nodefile.specs.Files.{lineOf, fileRight, fileNodes, recordsTo, fileTable, mostBytes, fileChecked, fileRead}
+use Rattle.formula.specs.Tables.{nodeBytes}
+use Rattle.nodefile.specs.Files.{optionCount, lineOf, fileRight, fileNodes, recordsTo, fileTable, mostBytes, fileChecked, fileRead}
 use Rattle.nodefile.proofs.Laws.Files.{Refused, length-records}
 
 -- the text is too long

@@ -8,7 +8,7 @@ use native.Mathlib.Omega.{arith}
 use lib.ListN.{length, drop}
 use Rattle.text.proofs.Laws.Pieces.{piecesAt, pieces-within, pieces-past, parted-some, NoField, missing, other, FieldIs}
 use Rattle.text.specs.declared.number.Number.the-variants.{Is, Wrong}
-use Rattle.nodefile.specs.Lines.{tab, areNumbers}
+use Rattle.nodefile.specs.Files.{tab, areNumbers}
 
 -- options that are right and wrong are told apart
 pub number-differs : (x : ℕ) → Is x ≡ Wrong → ⊥

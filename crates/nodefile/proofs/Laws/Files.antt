@@ -15,12 +15,11 @@ use Rattle.laws.specs.Lists.{splice}
 use Rattle.laws.proofs.Choices.{both}
 use Rattle.laws.proofs.First.{Looking, looking-start, looking-more, looking-here, looking-end}
 use Rattle.laws.proofs.Splices.{length-splice}
-use Rattle.formula.specs.Limits.{nodeBytes, mostNodes}
-use Rattle.text.specs.Pieces.{parted}
+use Rattle.formula.specs.Tables.{nodeBytes, mostNodes, nodeRecord}
+use Rattle.text.specs.Texts.{parted}
 use Rattle.text.proofs.Laws.Pieces.{parted-some, parted-alone}
-use Rattle.formula.specs.Nodes.{nodeRecord}
-use Rattle.nodefile.specs.Lines.{newline, optionCount, nodeLine, recordOf}
-use Rattle.nodefile.specs.Files.{lineCount, lineOf, lineRight, firstWrong, fileRight, fileNodes, recordsTo}
+use Rattle.nodefile.specs.Files.{newline, optionCount, nodeLine, recordOf, lineCount, lineOf, lineRight, firstWrong, fileRight}
+use Rattle.nodefile.specs.Files.{fileNodes, recordsTo}
 use Rattle.nodefile.specs.Inner.Steps.{nextPasses, LineIs, OptionsAre, nodeTest, NodeIs}
 
 -- the lowest wrong or missing line is line i

@@ -10,7 +10,7 @@ use lib.ListN.{length}
 use borrow.Author.Tests.{eqb-true, leb-true, leb-false}
 use Rattle.laws.proofs.Choices.{both}
 use Rattle.laws.proofs.First.{first-before}
-use Rattle.formula.specs.Limits.{nodeBytes, mostNodes}
+use Rattle.formula.specs.Tables.{nodeBytes, mostNodes}
 use Rattle.nodefile.specs.Files.{lineCount, lineOf, lineRight, firstWrong, fileRight, fileNodes, fileTable}
 use Rattle.nodefile.proofs.Laws.Files.{length-records}
 

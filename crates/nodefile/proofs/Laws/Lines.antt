@@ -8,13 +8,12 @@ use native.Mathlib.Omega.{arith}
 use lib.ListN.{length, take, drop}
 use borrow.Author.Tests.{lt-ltb, le-ltb}
 use Rattle.laws.proofs.Choices.{chose-first, chose-second}
-use Rattle.text.specs.Pieces.{parted}
+use Rattle.text.specs.Texts.{parted}
 use Rattle.text.specs.Inner.Pieces.{MarkAt}
 use Rattle.text.specs.declared.number.Number.the-variants as number
 use Rattle.text.proofs.Laws.Pieces.{parted-next, pieces-within, pieces-past, parted-some}
-use Rattle.formula.specs.Limits.{mostNodes}
-use Rattle.formula.specs.Nodes.{nodeRecord}
-use Rattle.nodefile.specs.Lines.{newline, fieldValue, optionLine, optionCount, nodeLine}
+use Rattle.formula.specs.Tables.{mostNodes, nodeRecord}
+use Rattle.nodefile.specs.Files.{newline, fieldValue, optionLine, optionCount, nodeLine}
 use Rattle.nodefile.specs.Inner.Steps.{nextPasses, LineIs, OptionsAre, nodeTest, NodeIs, optionsOf, nodeOf}
 use Rattle.nodefile.specs.declared.line.Node.{Node}
 use Rattle.nodefile.specs.declared.line.Node.the-variants as node

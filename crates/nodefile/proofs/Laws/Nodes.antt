@@ -7,9 +7,9 @@ use Prim.Native.Nat.{ℕ, _≤_, _<_}
 use native.Mathlib.Omega.{arith}
 use lib.ListN.{length, getD}
 use borrow.Author.Tests.{eq-eqb, ne-eqb}
-use Rattle.text.specs.Decimals.{valueOf}
+use Rattle.text.specs.Texts.{valueOf}
 use Rattle.text.proofs.Laws.Pieces.{piecesAt, pieces-within, pieces-past, NoField, FieldIs}
-use Rattle.nodefile.specs.Lines.{tab, mostKind, mostNumber, fieldsOf, fieldValue, areNumbers, nodeLimits}
+use Rattle.nodefile.specs.Files.{tab, mostKind, mostNumber, fieldsOf, fieldValue, areNumbers, nodeLimits}
 use Rattle.nodefile.specs.Inner.Steps.{nodeOf}
 use Rattle.nodefile.specs.declared.line.Node.the-variants.{Is, Wrong}
 use Rattle.nodefile.proofs.Laws.Fields.{numbers-not, numbers-step, numbers-more, numbers-end}

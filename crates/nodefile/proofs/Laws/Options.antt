@@ -5,11 +5,11 @@ use mathlib.Core.Bool.{true, false}
 use mathlib.Core.List.{List, [], _∷_}
 use Prim.Native.Nat.{ℕ, _+_, _≤_, _<_}
 use lib.ListN.{length, getD, take}
-use Rattle.text.specs.Decimals.{valueOf, same}
+use Rattle.text.specs.Texts.{valueOf, same}
 use Rattle.text.specs.Inner.Pieces.{MarkAt}
 use Rattle.text.specs.declared.number.Number.the-variants.{Is, Wrong}
 use Rattle.text.proofs.Laws.Pieces.{piecesAt, parted-front, NoField, FieldIs}
-use Rattle.nodefile.specs.Lines.{tab, mostNumber, areNumbers, optionsWord, optionLine, optionFields, optionCount}
+use Rattle.nodefile.specs.Files.{tab, mostNumber, areNumbers, optionsWord, optionLine, optionFields, optionCount}
 use Rattle.nodefile.specs.Inner.Steps.{optionsOf}
 use Rattle.nodefile.proofs.Laws.Fields.{numbers-not, numbers-step, numbers-more, numbers-end}
 

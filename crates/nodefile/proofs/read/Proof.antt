@@ -7,13 +7,12 @@ use native.Mathlib.Omega.{arith}
 use borrow.Author.Needs.{needs}
 use lib.ListN.{length, take}
 use Rattle.laws.specs.Lists.{splice}
-use Rattle.formula.specs.Limits.{nodeBytes, mostNodes}
-use Rattle.nodefile.specs.Lines.{optionLine, optionCount}
-use Rattle.nodefile.specs.Files.{lineOf, fileRight, fileNodes, mostBytes}
+use Rattle.formula.specs.Tables.{nodeBytes, mostNodes}
+use Rattle.nodefile.specs.Files.{optionLine, optionCount, lineOf, fileRight, fileNodes, mostBytes}
 use Rattle.nodefile.specs.Inner.Steps.{OptionsFound, NodeFound, NodeIs, nodeTest}
-use Rattle.nodefile.proofs.Laws.Files.{Standing, standing-start, options-standing, refused-here, right-end}
-use Rattle.nodefile.proofs.Laws.Files.{node-tested, node-standing, node-record, node-few}
-use Rattle.nodefile.proofs.Laws.Files.{Collected, collected-start, collected-more, length-records}
+use Rattle.nodefile.proofs.Laws.Files.{Standing, standing-start, options-standing, refused-here, right-end, node-tested}
+use Rattle.nodefile.proofs.Laws.Files.{node-standing, node-record, node-few, Collected, collected-start, collected-more}
+use Rattle.nodefile.proofs.Laws.Files.{length-records}
 use Rattle.nodefile.proofs.Laws.Answers.{file-long, file-refused, file-no-room, file-stored}
 use Rattle.nodefile.proofs.read.Statement.{statement}
 use Rattle.nodefile.proofs.read.Tie as tie

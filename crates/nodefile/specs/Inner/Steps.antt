@@ -6,12 +6,11 @@ use mathlib.Core.Path.{_≡_}
 use Prim.Native.Nat.{ℕ, _≤_, _<_}
 use lib.Dec.{ltb}
 use lib.ListN.{length, drop}
-use Rattle.text.specs.Pieces.{parted}
+use Rattle.text.specs.Texts.{parted}
 use Rattle.text.specs.declared.number.Number.{Number}
 use Rattle.text.specs.declared.number.Number.the-variants as number
-use Rattle.formula.specs.Limits.{mostNodes}
-use Rattle.formula.specs.Nodes.{nodeRecord}
-use Rattle.nodefile.specs.Lines.{newline, optionLine, optionCount, fieldValue, nodeLine, recordOf}
+use Rattle.formula.specs.Tables.{mostNodes, nodeRecord}
+use Rattle.nodefile.specs.Files.{newline, optionLine, optionCount, fieldValue, nodeLine, recordOf}
 use Rattle.nodefile.specs.declared.line.Node.{Node}
 use Rattle.nodefile.specs.declared.line.Node.the-variants as node
 use Rattle.nodefile.specs.declared.line.OptionsAt.{OptionsAt}

@@ -1,71 +1,82 @@
 -- Printing clause bytes: what writing them answers.
 -- Assumes nothing.
-use mathlib.Core.Path.{_≡_, refl, sym, ap, _∙_, subst}
+use mathlib.Core.Path.{_≡_, refl, sym, ap, _∙_}
 use mathlib.Core.Bool.{Bool, true, false, cond}
-use mathlib.Core.List.{List, _++_}
-use Prim.Native.Nat.{ℕ, _+_, _≤_}
+use mathlib.Core.List.{List}
+use Prim.Native.Nat.{ℕ}
 use native.Mathlib.Omega.{arith}
-use lib.Dec.{T, leb}
-use lib.ListN.{length, drop, length-append}
-use borrow.Author.Tests.{leb-true}
-use Rattle.laws.specs.Splices.{splice}
-use Rattle.answer.specs.Numbers.{refuses}
-use Rattle.answer.specs.Part.{Wrote}
+use lib.Dec.{ltb}
+use lib.ListN.{length, replicate, length-replicate}
+use Rattle.laws.specs.Lists.{splice}
+use Rattle.answer.specs.Answers.{refuses, Wrote, stored}
 use Rattle.answer.specs.declared.Answer.{Answer}
 use Rattle.answer.specs.declared.Answer.the-variants.{Accepted, Room, ClauseBytes}
+use Rattle.answer.proofs.Laws.Order.{Kept, kept-stored, accepted-stored}
+use Rattle.clausebytes.specs.Words.{wrongBytes, clausesOf}
 use Rattle.dimacs.specs.Calls.{textLength, writeCall}
-use Rattle.dimacs.specs.Words.{wrongBytes, clausesOf}
-use Rattle.dimacs.specs.Written.{writtenText}
-use Rattle.program.specs.Printed.{bufferBytes, refusalLine, clausesPrinted}
+use Rattle.dimacs.specs.Texts.{writtenText}
+use Rattle.program.specs.Printed.{bufferBytes, blank, Shows}
+use Rattle.program.proofs.Laws.Shows.{shows-stored}
 
-module _ (bytes : List ℕ) (v : ℕ) (before : List ℕ) (size : length before ≡ bufferBytes) where
+-- a buffer as the code makes it
+pub new-blank : replicate bufferBytes 0 ≡ blank
+unfolding blank
+new-blank = refl
+
+pub length-blank : length blank ≡ bufferBytes
+unfolding blank
+length-blank = length-replicate {A = ℕ} bufferBytes 0
+
+module _ (bytes : List ℕ) (v : ℕ) where
   abbrev text : List ℕ
   text = writtenText v (clausesOf bytes)
 
-  -- the call and what is printed, by the two tests
-  abbrev call : Bool → Bool → Wrote
-  call wrong fits =
-      cond wrong (record { answer = ClauseBytes; output = before })
-      (cond fits (record { answer = Accepted v (length (clausesOf bytes)); output = text ++ drop (length text) before }) (record { answer = Room; output = before }))
+  abbrev said : Answer
+  said = Accepted v (length (clausesOf bytes))
 
-  abbrev shown : Bool → Bool → List ℕ
-  shown wrong fits = cond wrong (refusalLine ClauseBytes) (cond fits text (refusalLine Room))
-
-  shown-is : clausesPrinted bytes v ≡ shown (wrongBytes bytes v) (leb (length text) (length before))
-  shown-is = ap (λ (n : ℕ). shown (wrongBytes bytes v) (leb (length text) n)) (sym size)
-
-  -- a refusal: its line, and the buffer is as it was
-  pub write-refused : (a : Answer) (o : List ℕ) → record { answer = a; output = o } ≡ writeCall bytes v before → refuses a ≡ true → (clausesPrinted bytes v ≡ refusalLine a) × (before ≡ o)
-  write-refused a o e r =
-      let g = go (wrongBytes bytes v) (leb (length text) (length before)) e r in
-      (shown-is ∙ g .0, g .1)
+  -- of a buffer only its length counts
+  answer-is : (l : List ℕ)
+      → writeCall bytes v l .answer ≡ cond (wrongBytes bytes v) ClauseBytes (cond (ltb (length l) (length text)) Room said)
+  answer-is l = go (wrongBytes bytes v) (ltb (length l) (length text))
     where
-      go : (b c : Bool) → record { answer = a; output = o } ≡ call b c → refuses a ≡ true → (shown b c ≡ refusalLine a) × (before ≡ o)
-      go true c e r = (ap (λ (w : Wrote). refusalLine (w .answer)) (sym e), ap (λ (w : Wrote). w .output) (sym e))
-      go false true e r = absurd (subst T (sym r ∙ ap (λ (w : Wrote). refuses (w .answer)) e) tt)
-      go false false e r = (ap (λ (w : Wrote). refusalLine (w .answer)) (sym e), ap (λ (w : Wrote). w .output) (sym e))
+      wrote : Bool → Bool → Wrote (List ℕ)
+      wrote wrong short =
+          cond wrong (record { answer = ClauseBytes; output = l })
+          (cond short (record { answer = Room; output = l }) (record { answer = said; output = splice l 0 text }))
 
-  -- a text that is written fits
-  pub write-fits : (a : Answer) (o : List ℕ) → record { answer = a; output = o } ≡ writeCall bytes v before → refuses a ≡ false → textLength bytes v ≤ length o
-  write-fits a o e r = go (wrongBytes bytes v) (leb (length text) (length before)) refl e r
-    where
-      go : (b c : Bool) → leb (length text) (length before) ≡ c → record { answer = a; output = o } ≡ call b c → refuses a ≡ false → cond b 0 (length text) ≤ length o
-      go true c p e r = omega arith
-      go false true p e r = omega (arith, leb-true (length text) (length before) p, ap (λ (w : Wrote). length (w .output)) e, length-append text (drop (length text) before))
-      go false false p e r = absurd (subst T (sym (ap (λ (w : Wrote). refuses (w .answer)) e) ∙ r) tt)
+      go : (wrong short : Bool) → wrote wrong short .answer ≡ cond wrong ClauseBytes (cond short Room said)
+      go true short = refl
+      go false true = refl
+      go false false = refl
 
-  -- acceptance: the text, and its length
-  pub write-accepted : (a : Answer) (o : List ℕ) → record { answer = a; output = o } ≡ writeCall bytes v before → refuses a ≡ false
-      → (textLength bytes v ≡ length (clausesPrinted bytes v)) × (o ≡ splice before 0 (clausesPrinted bytes v))
-  write-accepted a o e r =
-      let g = go (wrongBytes bytes v) (leb (length text) (length before)) e r in
-      (g .0 ∙ ap length (sym shown-is), g .1 ∙ ap (splice before 0) (sym shown-is))
-    where
-      from-start : text ++ drop (length text) before ≡ splice before 0 text
-      from-start = let e : length text ≡ 0 + length text = omega arith in ap (λ (k : ℕ). text ++ drop k before) e
+  module _ (before : List ℕ) where
+    kept : Kept before (writeCall bytes v before)
+    kept = go (wrongBytes bytes v)
+      where
+        go : (b : Bool) → Kept before (cond b (record { answer = ClauseBytes; output = before }) (stored said text before))
+        go true e = refl
+        go false e = kept-stored said text before refl e
 
-      go : (b c : Bool) → record { answer = a; output = o } ≡ call b c → refuses a ≡ false
-          → (cond b 0 (length text) ≡ length (shown b c)) × (o ≡ splice before 0 (shown b c))
-      go true c e r = absurd (subst T (sym (ap (λ (w : Wrote). refuses (w .answer)) e) ∙ r) tt)
-      go false true e r = (refl, ap (λ (w : Wrote). w .output) e ∙ from-start)
-      go false false e r = absurd (subst T (sym (ap (λ (w : Wrote). refuses (w .answer)) e) ∙ r) tt)
+    module _ (a : Answer) (o : List ℕ) (e : record { answer = a; output = o } ≡ writeCall bytes v before) where
+      pub write-answer : length before ≡ bufferBytes → a ≡ writeCall bytes v blank .answer
+      write-answer size =
+          ap (λ (w : Wrote (List ℕ)). w .answer) e ∙ answer-is before
+          ∙ ap (λ (n : ℕ). cond (wrongBytes bytes v) ClauseBytes (cond (ltb n (length text)) Room said)) (size ∙ sym length-blank)
+          ∙ sym (answer-is blank)
+
+      -- a refusal leaves the buffer
+      pub write-kept : refuses a ≡ true → o ≡ before
+      write-kept r =
+          ap (λ (w : Wrote (List ℕ)). w .output) e
+          ∙ kept (sym (ap (λ (w : Wrote (List ℕ)). refuses (w .answer)) e) ∙ r)
+
+      -- a text that is written is shown
+      pub write-shows : refuses a ≡ false → (n : ℕ) → n ≡ textLength bytes v → Shows text before n o
+      write-shows r n q = go (wrongBytes bytes v) e q (sym (ap (λ (w : Wrote (List ℕ)). refuses (w .answer)) e) ∙ r)
+        where
+          go : (b : Bool) → let w = cond b (record { answer = ClauseBytes; output = before }) (stored said text before) in
+              record { answer = a; output = o } ≡ w → n ≡ cond b 0 (length text) → refuses (w .answer) ≡ false → Shows text before n o
+          go true f q r = let z : _≡_ {A = ℕ} 0 1 = cc in absurd (omega arith)
+          go false f q r =
+              let s = accepted-stored said text before r in
+              shows-stored (s .0) (record { place = omega arith; list = ap (λ (w : Wrote (List ℕ)). w .output) (f ∙ s .1) })

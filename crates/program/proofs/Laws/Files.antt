@@ -1,87 +1,86 @@
 -- Printing a node file: what reading it answers.
 -- Assumes nothing.
-use mathlib.Core.Path.{_≡_, refl, sym, ap, _∙_, subst}
+use mathlib.Core.Path.{_≡_, refl, sym, ap, _∙_}
 use mathlib.Core.Bool.{Bool, true, false, cond}
 use mathlib.Core.List.{List}
 use Prim.Native.Nat.{ℕ, _+_, _*_, _≤_}
 use native.Mathlib.Omega.{arith}
-use lib.Dec.{T, leb, ltb}
+use lib.Dec.{ltb}
 use lib.ListN.{length, take}
-use borrow.Author.Tests.{le-leb}
-use Rattle.laws.specs.Splices.{splice}
+use Rattle.laws.specs.Lists.{splice}
 use Rattle.laws.proofs.Splices.{length-splice}
-use Rattle.answer.specs.Numbers.{toldOf, refuses}
-use Rattle.answer.specs.Part.{Wrote, afterwards}
+use Rattle.laws.proofs.Stored.{take-stored}
+use Rattle.answer.specs.Answers.{toldOf, refuses, Wrote, stored}
 use Rattle.answer.specs.declared.Answer.{Answer}
-use Rattle.answer.specs.declared.Answer.the-variants.{Accepted, Room, Line}
-use Rattle.formula.specs.Limits.{nodeBytes, mostNodes}
-use Rattle.nodefile.specs.Files.{lineOf, firstWrong, fileRight, fileNodes, fileTable, fileChecked, fileStored, fileRead}
-use Rattle.nodefile.specs.Limits.{mostBytes}
-use Rattle.nodefile.specs.Lines.{optionCount}
+use Rattle.answer.specs.declared.Answer.the-variants.{Accepted, Line}
+use Rattle.answer.proofs.Laws.Order.{accepted-afterwards}
+use Rattle.answer.proofs.Laws.Part.{stored-fits}
+use Rattle.formula.specs.Tables.{nodeBytes, mostNodes, mostTable}
+use Rattle.nodefile.specs.Files.{lineOf, firstWrong, fileRight, fileNodes, fileTable, mostBytes, fileChecked, fileRead, optionCount}
 use Rattle.nodefile.proofs.Laws.Files.{length-records}
 use Rattle.nodefile.proofs.Laws.Fits.{few-nodes, table-fits}
-use Rattle.nodefile.proofs.Laws.Stored.{taken-again}
-use Rattle.program.specs.Printed.{refusalLine, tablePrinted, printed}
+use Rattle.program.specs.Printed.{unlessRefused, tablePrinted, printed}
+use Rattle.program.proofs.Laws.Shows.{unless-checked}
 
 module _ (text : List ℕ) where
+  abbrev said : Answer
+  said = Accepted (optionCount (lineOf text 0)) (fileNodes text)
+
   -- a file that is not refused is right
-  told : refuses (fileChecked text) ≡ false → (fileRight text ≡ true) × (fileChecked text ≡ Accepted (optionCount (lineOf text 0)) (fileNodes text))
-  told r = go (ltb mostBytes (length text)) (fileRight text) refl refl r
+  right : refuses (fileChecked text) ≡ false → (fileRight text ≡ true) × (fileChecked text ≡ said)
+  right r = go (ltb mostBytes (length text)) (fileRight text) refl r
     where
-      go : (a b : Bool) → ltb mostBytes (length text) ≡ a → fileRight text ≡ b
-          → refuses (cond a (Line 0) (cond b (Accepted (optionCount (lineOf text 0)) (fileNodes text)) (Line (firstWrong text + 1)))) ≡ false
-          → (b ≡ true) × (cond a (Line 0) (cond b (Accepted (optionCount (lineOf text 0)) (fileNodes text)) (Line (firstWrong text + 1))) ≡ Accepted (optionCount (lineOf text 0)) (fileNodes text))
-      go true b p q r = absurd (subst T r tt)
-      go false true p q r = (refl, refl)
-      go false false p q r = absurd (subst T r tt)
+      go : (a b : Bool) → fileRight text ≡ b → let c = cond a (Line 0) (cond b said (Line (firstWrong text + 1))) in
+          refuses c ≡ false → (fileRight text ≡ true) × (c ≡ said)
+      go true b q r = let z : _≡_ {A = ℕ} 0 1 = cc in absurd (omega arith)
+      go false true q r = (q, refl)
+      go false false q r = let z : _≡_ {A = ℕ} 0 1 = cc in absurd (omega arith)
 
-  module _ (before : List ℕ) (size : length before ≡ nodeBytes * mostNodes) where
-    -- its table has room
-    room : refuses (fileChecked text) ≡ false → length (fileTable text) ≤ length before
-    room r = omega (arith, table-fits text (told r .0))
+  module _ (before : List ℕ) (size : length before ≡ mostTable) where
+    -- there is room for its table
+    fits : refuses (fileChecked text) ≡ false → stored (fileChecked text) (fileTable text) before
+        ≡ record { answer = fileChecked text; output = splice before 0 (fileTable text) }
+    fits r =
+        sym (stored-fits (fileChecked text) (fileTable text) before _ (omega (arith, table-fits text (right r .0))) refl)
 
-    stored : refuses (fileChecked text) ≡ false → fileStored text before ≡ record { answer = fileChecked text; output = splice before 0 (fileTable text) }
-    stored r =
-        ap (λ (b : Bool). cond b (record { answer = fileChecked text; output = splice before 0 (fileTable text) }) (record { answer = Room; output = before }))
-        (le-leb (length (fileTable text)) (length before) (room r))
+    pub read-printed : printed text
+        ≡ unlessRefused (fileRead text before .answer) (tablePrinted (fileTable text) (optionCount (lineOf text 0)))
+    read-printed =
+        unless-checked (fileChecked text) before (stored (fileChecked text) (fileTable text) before)
+        (tablePrinted (fileTable text) (optionCount (lineOf text 0)))
+        (λ r. ap (λ (w : Wrote (List ℕ)). refuses (w .answer)) (fits r) ∙ r)
 
-    module _ (a : Answer) (o : List ℕ) (e : record { answer = a; output = o } ≡ fileRead text before) where
-      -- the answer is that of the lines, and a right table is stored
-      answered : a ≡ fileChecked text
-      answered = go (refuses (fileChecked text)) refl e
-        where
-          go : (b : Bool) → refuses (fileChecked text) ≡ b
-              → record { answer = a; output = o } ≡ cond b (record { answer = fileChecked text; output = before }) (fileStored text before) → a ≡ fileChecked text
-          go true p f = ap (λ (w : Wrote). w .answer) f
-          go false p f = ap (λ (w : Wrote). w .answer) (f ∙ stored p)
+    module _ (a : Answer) (o : List ℕ) (e : record { answer = a; output = o } ≡ fileRead text before) (r : refuses a ≡ false) where
+      passed : (refuses (fileChecked text) ≡ false) × (fileRead text before ≡ stored (fileChecked text) (fileTable text) before)
+      passed =
+          accepted-afterwards (fileChecked text) before (stored (fileChecked text) (fileTable text) before)
+          (sym (ap (λ (w : Wrote (List ℕ)). refuses (w .answer)) e) ∙ r)
 
-      -- a refusal: its line
-      pub read-refused : refuses a ≡ true → printed text ≡ refusalLine a
-      read-refused r = rw (← answered) (rw r)
+      abbrev given : Wrote (List ℕ)
+      given = record { answer = a; output = o }
 
-      module _ (r : refuses a ≡ false) where
-        right : refuses (fileChecked text) ≡ false
-        right = ap refuses (sym answered) ∙ r
+      made : given ≡ record { answer = said; output = splice before 0 (fileTable text) }
+      made =
+          e ∙ passed .1 ∙ fits (passed .0)
+          ∙ ap (λ (x : Answer). record { answer = x; output = splice before 0 (fileTable text) }) (right (passed .0) .1)
 
-        out : o ≡ splice before 0 (fileTable text)
-        out = ap (λ (w : Wrote). w .output) (e ∙ ap (λ (b : Bool). cond b (record { answer = fileChecked text; output = before }) (fileStored text before)) right ∙ stored right)
+      -- the options and the nodes
+      pub read-options : toldOf a .first ≡ optionCount (lineOf text 0)
+      read-options = ap (λ (w : Wrote (List ℕ)). toldOf (w .answer) .first) made
 
-        -- the options and the nodes
-        pub read-options : toldOf a .first ≡ optionCount (lineOf text 0)
-        read-options = ap (λ (x : Answer). toldOf x .first) (answered ∙ told right .1)
+      nodes : toldOf a .second ≡ fileNodes text
+      nodes = ap (λ (w : Wrote (List ℕ)). toldOf (w .answer) .second) made
 
-        nodes : toldOf a .second ≡ fileNodes text
-        nodes = ap (λ (x : Answer). toldOf x .second) (answered ∙ told right .1)
+      pub read-few : toldOf a .second ≤ mostNodes
+      read-few = omega (arith, nodes, few-nodes text (right (passed .0) .0))
 
-        pub read-few : toldOf a .second ≤ mostNodes
-        read-few = omega (arith, nodes, few-nodes text (told right .0))
+      pub read-size : length o ≡ mostTable
+      read-size =
+          ap (λ (w : Wrote (List ℕ)). length (w .output)) made
+          ∙ length-splice before 0 (fileTable text) (omega (arith, table-fits text (right (passed .0) .0))) ∙ size
 
-        pub read-size : length o ≡ nodeBytes * mostNodes
-        read-size = ap length out ∙ length-splice before 0 (fileTable text) (omega (arith, room right)) ∙ size
-
-        -- the table
-        pub read-table : (n : ℕ) → n ≡ nodeBytes * toldOf a .second → take n o ≡ fileTable text
-        read-table n q = ap (take n) out ∙ taken-again before (fileTable text) n (omega (arith, length-records text (fileNodes text), nodes))
-
-        pub read-accepted : printed text ≡ tablePrinted (fileTable text) (optionCount (lineOf text 0))
-        read-accepted = rw right
+      -- the table
+      pub read-table : (n : ℕ) → n ≡ nodeBytes * toldOf a .second → take n o ≡ fileTable text
+      read-table n q =
+          ap (λ (w : Wrote (List ℕ)). take n (w .output)) made
+          ∙ take-stored before (fileTable text) n (omega (arith, length-records text (fileNodes text), nodes))

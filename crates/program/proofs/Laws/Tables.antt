@@ -1,51 +1,47 @@
 -- Printing a table: what choosing answers.
 -- Assumes nothing.
-use mathlib.Core.Path.{_≡_, refl, sym, ap, _∙_, subst}
-use mathlib.Core.Bool.{Bool, true, false, cond}
-use mathlib.Core.List.{List}
-use Prim.Native.Nat.{ℕ, _/_}
+use mathlib.Core.Path.{_≡_, sym, ap, _∙_}
+use mathlib.Core.Bool.{Bool, false, cond}
+use mathlib.Core.List.{List, []}
+use Prim.Native.Nat.{ℕ, _≤_}
 use native.Mathlib.Omega.{arith}
-use lib.Dec.{T, eqb}
-use lib.ListN.{length}
+use lib.ListN.{length, take, replicate, length-replicate}
+use lib.Seq.{length-take-le}
 use borrow.Author.Tests.{eq-eqb}
-use Rattle.answer.specs.Numbers.{refuses}
-use Rattle.answer.specs.Part.{Wrote, afterwards}
-use Rattle.answer.specs.declared.Answer.{Answer}
+use Rattle.answer.specs.Answers.{refuses, Wrote}
 use Rattle.answer.specs.declared.Answer.the-variants.{Set}
+use Rattle.answer.proofs.Laws.Order.{accepted-afterwards}
 use Rattle.formula.specs.Checks.{checked}
-use Rattle.formula.specs.Limits.{nodeBytes}
-use Rattle.formula.specs.Nodes.{nodesOf}
+use Rattle.formula.specs.Tables.{nodeCount, nodesOf}
+use Rattle.formula.specs.declared.node.Node.{Node}
 use Rattle.formula.proofs.Laws.Tables.{length-nodesOf}
-use Rattle.clausal.specs.Choosing.{choose}
-use Rattle.choose.specs.Chosen.{told, chosenUnder, chosenBy}
-use Rattle.program.specs.Printed.{allowance, refusalLine, setPrinted, tablePrinted}
+use Rattle.clausal.specs.Totals.{choose}
+use Rattle.clausal.specs.Clauses.{renaming}
+use Rattle.clausal.specs.Calls.{told, chosenUnder, chosenBy}
+use Rattle.program.specs.Printed.{allowance, unlessRefused, setPrinted, tablePrinted}
+use Rattle.program.proofs.Laws.Shows.{unless-checked}
 
-module _ (t : List ℕ) (v : ℕ) (before : List ℕ) (size : length before ≡ length t / nodeBytes) where
+-- the start of a fresh buffer
+pub length-start : (k n : ℕ) → k ≤ n → length (take k (replicate {A = ℕ} n 0)) ≡ k
+length-start k n h = length-take-le k (replicate n 0) (omega (arith, length-replicate {A = ℕ} n 0))
+
+module _ (t : List ℕ) (v : ℕ) (before : List ℕ) (size : length before ≡ nodeCount t) where
+  abbrev ns : List Node
+  ns = nodesOf t
+
+  abbrev chosen : Wrote (List ℕ)
+  chosen = told (renaming v []) ns (choose allowance (renaming v []) ns)
+
   -- the buffer for the set is never refused
-  under : chosenUnder v (nodesOf t) allowance before ≡ told v (nodesOf t) (choose allowance v (nodesOf t))
+  under : chosenUnder v ns allowance before ≡ chosen
   under =
-      ap (λ (b : Bool). cond b (told v (nodesOf t) (choose allowance v (nodesOf t))) (record { answer = Set (length (nodesOf t)); output = before }))
-      (eq-eqb (length before) (length (nodesOf t)) (size ∙ sym (length-nodesOf t)))
+      ap (λ (b : Bool). cond b chosen (record { answer = Set (length ns); output = before }))
+      (eq-eqb (length before) (length ns) (size ∙ sym (length-nodesOf t)))
 
-  module _ (a : Answer) (o : List ℕ) (e : record { answer = a; output = o } ≡ chosenBy t v allowance before) where
-    chose : record { answer = a; output = o } ≡ afterwards (checked t v) before (told v (nodesOf t) (choose allowance v (nodesOf t)))
-    chose = e ∙ ap (afterwards (checked t v) before) under
+  pub choose-printed : tablePrinted t v ≡ unlessRefused (chosenBy t v allowance before .answer) (setPrinted t v (chosen .output))
+  choose-printed =
+      unless-checked (checked t v) before (chosenUnder v ns allowance before) (setPrinted t v (chosen .output))
+      (λ _. ap (λ (w : Wrote (List ℕ)). refuses (w .answer)) under)
 
-    -- a refusal: its line
-    pub choose-refused : refuses a ≡ true → tablePrinted t v ≡ refusalLine a
-    choose-refused r = go (refuses (checked t v)) chose
-      where
-        go : (b : Bool) → record { answer = a; output = o } ≡ cond b (record { answer = checked t v; output = before }) (told v (nodesOf t) (choose allowance v (nodesOf t)))
-            → cond b (refusalLine (checked t v)) (setPrinted t v (choose allowance v (nodesOf t) .chosen)) ≡ refusalLine a
-        go true f = ap (λ (w : Wrote). refusalLine (w .answer)) (sym f)
-        go false f = absurd (subst T (sym r ∙ ap (λ (w : Wrote). refuses (w .answer)) f) tt)
-
-    -- acceptance: the set that is chosen
-    pub choose-accepted : refuses a ≡ false → tablePrinted t v ≡ setPrinted t v o
-    choose-accepted r = go (refuses (checked t v)) refl chose
-      where
-        go : (b : Bool) → refuses (checked t v) ≡ b
-            → record { answer = a; output = o } ≡ cond b (record { answer = checked t v; output = before }) (told v (nodesOf t) (choose allowance v (nodesOf t)))
-            → cond b (refusalLine (checked t v)) (setPrinted t v (choose allowance v (nodesOf t) .chosen)) ≡ setPrinted t v o
-        go true p f = absurd (subst T (sym p ∙ ap (λ (w : Wrote). refuses (w .answer)) (sym f) ∙ r) tt)
-        go false p f = ap (λ (w : Wrote). setPrinted t v (w .output)) (sym f)
+  pub choose-accepted : refuses (chosenBy t v allowance before .answer) ≡ false → chosenBy t v allowance before ≡ chosen
+  choose-accepted r = accepted-afterwards (checked t v) before (chosenUnder v ns allowance before) r .1 ∙ under

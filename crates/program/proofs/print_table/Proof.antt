@@ -1,75 +1,87 @@
 -- `program::print_table` meets its contract: a refusal's line, or what the chosen set comes to. Assumes nothing.
 use mathlib.Core.Path.{_≡_, refl, sym, ap, _∙_}
-use mathlib.Core.Bool.{true, false}
-use mathlib.Core.List.{List}
-use Prim.Native.Nat.{ℕ, _/_, _≤_}
+use mathlib.Core.Bool.{false}
+use mathlib.Core.List.{List, []}
+use Prim.Native.Nat.{ℕ}
 use native.Mathlib.Omega.{arith}
 use borrow.Author.Needs.{needs}
-use lib.ListN.{length, take, length-take}
-use Rattle.answer.specs.Numbers.{refuses}
-use Rattle.formula.specs.Limits.{nodeBytes}
-use Rattle.program.proofs.Laws.Lines.{shows-same}
-use Rattle.program.proofs.Laws.Tables.{choose-refused, choose-accepted}
+use lib.ListN.{length, take, replicate}
+use Rattle.answer.specs.Answers.{Wrote}
+use Rattle.answer.proofs.Laws.Order.{tested}
+use Rattle.formula.specs.Tables.{mostNodes, nodeCount, nodesOf}
+use Rattle.clausal.specs.Totals.{choose}
+use Rattle.clausal.specs.Clauses.{renaming}
+use Rattle.clausal.specs.Calls.{chosenBy}
+use Rattle.program.specs.Printed.{allowance, setPrinted}
+use Rattle.program.proofs.Laws.Shows.{shows-as, line-refused, line-accepted}
+use Rattle.program.proofs.Laws.Tables.{length-start, choose-printed, choose-accepted}
 use Rattle.program.proofs.print_table.Statement.{statement}
 use Rattle.program.proofs.print_table.Tie as tie
 
 -- a byte a node
-module _ (c : tie.After-set-room) where
+module _ (c : tie.After-sets) where
   abbrev start : tie.Start
   start = c .before .before .before
 
-  abbrev count : ℕ
-  count = length (start .args .table .now) / nodeBytes
+  abbrev table : List ℕ
+  table = start .args .table .now
 
-  bytes : length (take count (c .set-room .result)) ≡ count
-  bytes = length-take count (c .set-room .result) ∙ omega (arith, start .pre .0, c .set-room .ensures)
+  abbrev v : ℕ
+  v = start .args .options
+
+  abbrev lent : List ℕ
+  lent = take (nodeCount table) (replicate mostNodes 0)
+
+  size : length lent ≡ nodeCount table
+  size = length-start (nodeCount table) mostNodes (omega (arith, start .pre .table))
 
 cut : tie.Need-slice-aggregate-set
-cut c = sym (bytes (c .before))
+cut c = sym (size c)
 
 -- what choosing gave
 module _ (c : tie.After-is-refusal) where
   abbrev call : tie.After-choose
   call = c .before .before .before
 
-  abbrev room : tie.After-set-room
-  room = call .before .before .before
+  abbrev sets : tie.After-sets
+  sets = call .before .before
 
   abbrev out : List ℕ
   out = call .choose .last .1 .1 .1 .0
 
-  refuses-as : refuses (call .choose .result) ≡ c .is-refusal .result
-  refuses-as = sym (c .is-refusal .ensures)
+  abbrev printed : List ℕ
+  printed = setPrinted (table sets) (v sets) (choose allowance (renaming (v sets) []) (nodesOf (table sets)) .chosen)
+
+  answered : call .choose .result ≡ chosenBy (table sets) (v sets) allowance (lent sets) .answer
+  answered = ap (λ (w : Wrote (List ℕ)). w .answer) (call .choose .ensures)
 
 refused : tie.Need-returns
 refused c =
     let put = c .before .before in
     let if1 = put .before .before .before in
-    let tested = if1 .before in
-    let r = room tested in
-    let a = start r .args in
-    shows-same _ _ _ _ _ _
-    (choose-refused (a .table .now) (a .options) (take (count r) (r .set-room .result)) (bytes r) (call tested .choose .result) (out tested) (call tested .choose .ensures)
-    (refuses-as tested ∙ if1 .if1 .taken)) refl
-    (put .put-refusal .ensures)
+    let t = if1 .before in
+    let s = sets t in
+    shows-as
+    (line-refused _ _ (printed t) (choose-printed (table s) (v s) (lent s) (size s)) _ (answered t) _ (t .is-refusal .ensures)
+    (if1 .if1 .taken)) refl (put .put-refusal .ensures)
 
-printed : tie.Need-returns-2
-printed c =
+shown : tie.Need-returns-2
+shown c =
     let print = c .before .before .before in
     let if1 = print .before .before .before in
-    let tested = if1 .before in
-    let r = room tested in
-    let a = start r .args in
-    shows-same _ _ _ _ _ _
-    (choose-accepted (a .table .now) (a .options) (take (count r) (r .set-room .result)) (bytes r) (call tested .choose .result) (out tested) (call tested .choose .ensures)
-    (refuses-as tested ∙ if1 .if1 .left)) refl
-    (print .print-set .ensures)
+    let t = if1 .before in
+    let s = sets t in
+    let ok = tested _ _ _ (answered t) (t .is-refusal .ensures) false (if1 .if1 .left) in
+    let same = ap (λ (w : Wrote (List ℕ)). w .output)
+    (call t .choose .ensures ∙ choose-accepted (table s) (v s) (lent s) (size s) ok) in
+    shows-as
+    (line-accepted _ _ (printed t) (choose-printed (table s) (v s) (lent s) (size s)) _ (answered t) _ (t .is-refusal .ensures)
+    (if1 .if1 .left) ∙ ap (setPrinted (table s) (v s)) (sym same)) refl (print .print-set .ensures)
 
 pub print-table-spec : {M : Type 1} → statement M
 print-table-spec =
     tie.close
     (tie.spec
-    (λ c κs. search needs)
     (λ c. search needs)
     cut
     (λ c κs. search needs)
@@ -79,4 +91,4 @@ print-table-spec =
     refused
     (λ c κs. search needs)
     (λ c. search needs)
-    printed)
+    shown)

@@ -7,10 +7,11 @@ use native.Mathlib.Numerals.{add-one}
 use native.Mathlib.Omega.{arith}
 use lib.ListN.{length, set, take, drop, length-append}
 use lib.Seq.{set-split, take-append-le, take-take, drop-at, length-take-le}
-use Rattle.laws.specs.Lists.{splice, Stored}
+use Rattle.laws.specs.Lists.{splice}
+use Rattle.laws.specs.Inner.Stores.{Stored}
 use Rattle.laws.proofs.Splices.{length-splice}
 use Rattle.laws.proofs.Stored.{stored-nothing}
-use Rattle.text.specs.Decimals.{decimal}
+use Rattle.text.specs.Texts.{decimal}
 use Rattle.text.proofs.Laws.Decimals.{decimal-one, decimal-last, length-last, decimal-some}
 
 -- a byte in front of a run that is stored

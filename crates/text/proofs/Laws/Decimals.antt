@@ -9,7 +9,7 @@ use native.Mathlib.Omega.{arith}
 use lib.Dec.{ltb}
 use lib.ListN.{length, length-append}
 use borrow.Author.Tests.{lt-ltb, le-ltb, ltb-true, ltb-false}
-use Rattle.text.specs.Decimals.{digits, decimal}
+use Rattle.text.specs.Texts.{digits, decimal}
 
 -- any bound that is large enough will do
 digits-bound : (k j n : ℕ) → n ≤ k → n ≤ j → digits k n ≡ digits j n

@@ -12,12 +12,12 @@ use lib.Seq.{drop-cons}
 use borrow.Author.Tests.{leb-true, le-leb, eqb-true, eq-eqb, lt-ltb}
 use Rattle.laws.specs.Lists.{Every, none, more}
 use Rattle.laws.proofs.Choices.{both}
-use Rattle.text.specs.Decimals.{decimal, valueFrom, valueOf, same, isNumber}
+use Rattle.text.specs.Texts.{decimal, valueFrom, valueOf, same, isNumber}
 use Rattle.text.specs.Inner.Numbers.{isDigit, grownOf, numberOf}
 use Rattle.text.specs.declared.number.Number.the-variants.{Wrong, Is}
 use Rattle.text.proofs.Laws.Decimals.{decimal-some, decimal-taken}
-use Rattle.text.proofs.Laws.Numbers.{More, here, First, first-of-decimal, split-of-first, digit-value, grown-of}
-use Rattle.text.proofs.Laws.Numbers.{Took, more-on, first-on, more-back, first-back}
+use Rattle.text.proofs.Laws.Numbers.{More, here, First, first-of-decimal, split-of-first, digit-value, grown-of, Took, more-on}
+use Rattle.text.proofs.Laws.Numbers.{first-on, more-back, first-back}
 
 -- runs of bytes that are the same
 pub same-whole : (xs ys : List ℕ) → same xs ys ≡ true → xs ≡ ys

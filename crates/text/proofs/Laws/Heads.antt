@@ -8,8 +8,8 @@ use Prim.Native.Nat.{ℕ, _+_, _*_, _-_}
 use native.Mathlib.Omega.{arith}
 use lib.Dec.{eqb}
 use borrow.Author.Tests.{eqb-true, eqb-false, eq-eqb, ne-eqb}
-use Rattle.text.specs.Heads as grammar
-use Rattle.text.specs.Heads.{Remark, Blank, Gap, Blanks, Byte, Word, LastNumber, Numbers, Opening}
+use Rattle.text.specs.Texts as grammar
+use Rattle.text.specs.Texts.{Remark, Blank, Gap, Blanks, Byte, Word, LastNumber, Numbers, Opening}
 use Rattle.text.specs.Inner.Numbers.{isDigit, grownOf}
 use Rattle.text.specs.Inner.Heads.{isBlank, isDone, toOf, deadOf, goOf, takenOf, mostOf, spaceOf, stepAt, stepIn}
 use Rattle.text.specs.declared.number.Number as number
@@ -21,8 +21,7 @@ use Rattle.text.specs.declared.head.Phase.the-variants.{At, Done, Dead}
 use Rattle.text.specs.declared.head.Spot.{Spot}
 use Rattle.text.specs.declared.head.Spot.the-variants as spot
 use Rattle.text.proofs.Laws.Numbers.{More, here, digit, First, Took, first-of-decimal, split-of-first, first-on, first-back}
-use Rattle.text.proofs.Laws.Numbers.{more-back}
-use Rattle.text.proofs.Laws.Numbers.{digit-value, digit-of, grown-more}
+use Rattle.text.proofs.Laws.Numbers.{more-back, digit-value, digit-of, grown-more}
 
 -- a space or a tab is no digit, and the test for one
 pub blank-of : (b : ℕ) → isBlank b ≡ true → Blank b

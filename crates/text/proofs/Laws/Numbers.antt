@@ -8,7 +8,7 @@ use native.Mathlib.Omega.{arith}
 use lib.Dec.{eqb, leb, ltb}
 use borrow.Author.Tests.{leb-true, le-leb, lt-leb, eqb-false, ne-eqb, ltb-false, le-ltb}
 use Rattle.laws.proofs.Choices.{both}
-use Rattle.text.specs.Decimals.{decimal}
+use Rattle.text.specs.Texts.{decimal}
 use Rattle.text.specs.Inner.Numbers.{isDigit, grownOf}
 use Rattle.text.specs.declared.number.Number.{Number}
 use Rattle.text.specs.declared.number.Number.the-variants.{Wrong, Is}

@@ -12,8 +12,7 @@ use lib.Seq.{drop-cons, drop-drop, take-all}
 use borrow.Author.Tests.{leb-true, leb-false, le-leb, lt-leb, eq-eqb, ne-eqb, eqb-true, not-true}
 use Rattle.laws.specs.Lists.{Every, none, more}
 use Rattle.laws.proofs.Choices.{both}
-use Rattle.text.specs.Decimals.{decimal, valueOf, isNumber}
-use Rattle.text.specs.Pieces.{ahead, parted}
+use Rattle.text.specs.Texts.{decimal, valueOf, isNumber, ahead, parted}
 use Rattle.text.specs.Inner.Numbers.{isDigit, numberOf}
 use Rattle.text.specs.Inner.Pieces.{spot, MarkAt, pieceAt, fieldAt}
 use Rattle.text.specs.declared.number.Number.{Number}

@@ -9,7 +9,7 @@ use lib.Dec.{leb}
 use lib.ListN.{length, getD, drop, drop-of-length-le}
 use lib.Seq.{drop-cons}
 use borrow.Author.Tests.{leb-true, leb-false, eq-eqb, ne-eqb}
-use Rattle.text.specs.Decimals.{same}
+use Rattle.text.specs.Texts.{same}
 
 module _ (a b : List ℕ) (i : ℕ) where
   pub same-next : i < length a → i < length b → getD a i 0 ≡ getD b i 0

@@ -7,9 +7,8 @@ use Prim.Native.Nat.{ℕ, _+_, _-_, _≤_}
 use native.Mathlib.Omega.{arith}
 use lib.Dec.{eqb}
 use Rattle.laws.specs.Automata.{run, Begins}
-use Rattle.text.specs.Decimals.{decimal}
-use Rattle.text.specs.Heads as grammar
-use Rattle.text.specs.Heads.{Gap, Blanks, Byte, LastNumber, Numbers}
+use Rattle.text.specs.Texts.{decimal, Gap, Blanks, Byte, LastNumber, Numbers}
+use Rattle.text.specs.Texts as grammar
 use Rattle.text.specs.Inner.Numbers.{isDigit, grownOf}
 use Rattle.text.specs.Inner.Heads.{isBlank, isDone, isOver, startOf, toOf, deadOf, goOf, takenOf, mostOf, spaceBy, spaceOf, stepAt}
 use Rattle.text.specs.Inner.Heads.{stepIn, stepOf}
@@ -21,8 +20,8 @@ use Rattle.text.specs.declared.head.Phase.{Phase}
 use Rattle.text.specs.declared.head.Phase.the-variants.{At, Done, Dead}
 use Rattle.text.specs.declared.head.Spot.{Spot}
 use Rattle.text.specs.declared.head.Spot.the-variants as spot
-use Rattle.text.proofs.Laws.Heads.{Behind, LangAt, LangIn, Lang, alive, live, stops}
-use Rattle.text.proofs.Laws.Heads.{forth, back, still, done-alive, dead-none, dies}
+use Rattle.text.proofs.Laws.Heads.{Behind, LangAt, LangIn, Lang, alive, live, stops, forth, back, still, done-alive, dead-none}
+use Rattle.text.proofs.Laws.Heads.{dies}
 use Rattle.text.proofs.Laws.Numbers.{here, grown-of}
 use Rattle.text.proofs.Laws.Readers.{Reader, Placed}
 

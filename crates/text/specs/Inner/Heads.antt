@@ -14,8 +14,8 @@ use Rattle.text.specs.declared.head.Head.{Head}
 use Rattle.text.specs.declared.head.Phase.{Phase}
 use Rattle.text.specs.declared.head.Phase.the-variants.{At, Done, Dead}
 use Rattle.text.specs.declared.head.Spot.{Spot}
-use Rattle.text.specs.declared.head.Spot.the-variants.{Line, Comment, Problem, BeforeWord, Second, Third, Word}
-use Rattle.text.specs.declared.head.Spot.the-variants.{BeforeNumber, Number, After}
+use Rattle.text.specs.declared.head.Spot.the-variants.{Line, Comment, Problem, BeforeWord, Second, Third, Word, BeforeNumber}
+use Rattle.text.specs.declared.head.Spot.the-variants.{Number, After}
 
 -- a place that can still grow
 abbrev pub lastPlace : ℕ

@@ -6,7 +6,7 @@ use mathlib.Core.Path.{_≡_}
 use Prim.Native.Nat.{ℕ, suc, _+_, _≤_}
 use lib.Dec.{eqb, leb}
 use lib.ListN.{length, take, drop}
-use Rattle.text.specs.Decimals.{valueOf, isNumber}
+use Rattle.text.specs.Texts.{valueOf, isNumber}
 use Rattle.text.specs.declared.piece.Field.{Field}
 use Rattle.text.specs.declared.piece.Field.the-variants.{Wrong, Is}
 

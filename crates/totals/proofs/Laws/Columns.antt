@@ -13,14 +13,12 @@ use borrow.Author.Tests.{eqb-true, eqb-false, ltb-true, ltb-false}
 use Rattle.laws.specs.Lists.{upTo}
 use Rattle.laws.proofs.Upward.{length-upTo}
 use Rattle.formula.specs.Inner.Right.{Below}
-use Rattle.formula.specs.Limits.{mostNodes}
-use Rattle.formula.specs.Nodes.{nodeIn}
-use Rattle.formula.specs.Sets.{renamed}
+use Rattle.formula.specs.Tables.{mostNodes, nodeIn}
+use Rattle.formula.specs.Checks.{renamed}
 use Rattle.formula.specs.declared.node.Kind.{Kind}
 use Rattle.formula.specs.declared.node.Node.{Node}
-use Rattle.clausal.specs.Algebra as algebra
-use Rattle.clausal.specs.Renamings.{Renaming, renaming, nameOf}
-use Rattle.clausal.specs.Rows.{seen, rowFrom}
+use Rattle.clausal.specs.Clauses as algebra
+use Rattle.clausal.specs.Clauses.{Renaming, renaming, nameOf, seen, rowFrom}
 use Rattle.clausal.specs.Totals.{Size, capped}
 use Rattle.clausal.proofs.Reuse.{rows-kept-by-trial}
 use Rattle.clausal.proofs.Rows.{getD-rows, row-from, row-past, seen-plain, seen-renamed}
@@ -28,7 +26,8 @@ use Rattle.totals.specs.Inner.Columns.{cell, rowIn, childIn, rowNext, ro
 use Rattle.totals.specs.Inner.Sized.{asTotal, rowed, asRow}
 use Rattle.totals.specs.declared.rows.Row.{Row}
 use Rattle.totals.specs.declared.total.Total.{Total}
-use Rattle.totals.proofs.Laws.Grids.{putBoth, both-shaped, both-positive, both-negative, both-other, zeros, zeros-shaped, zeros-cell, same-cells}
+use Rattle.totals.proofs.Laws.Grids.{putBoth, both-shaped, both-positive, both-negative, both-other, zeros, zeros-shaped, zeros-cell}
+use Rattle.totals.proofs.Laws.Grids.{same-cells}
 
 -- the row of a node, from the totals of its P and its N
 pub ruled : (kind k : Kind) (a : ℕ) (x y : algebra.Row Size) (p n : Total) → kind ≡ k

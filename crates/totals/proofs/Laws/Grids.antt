@@ -10,7 +10,7 @@ use lib.Dec.{eqb}
 use lib.ListN.{length, getD, set, replicate, length-set, length-replicate, getD-replicate}
 use lib.Seq.{getD-set-same, getD-set-other, ext-getD}
 use borrow.Author.Tests.{eqb-true, eqb-false}
-use Rattle.formula.specs.Limits.{mostNodes}
+use Rattle.formula.specs.Tables.{mostNodes}
 use Rattle.totals.specs.Inner.Columns.{cell, Shaped}
 
 -- an entry is stored

@@ -13,15 +13,13 @@ use lib.ListN.{length, set}
 use borrow.Author.Tests.{eqb-true, eqb-false}
 use Rattle.formula.specs.Inner.Right.{Below}
 use Rattle.formula.specs.Marks.{toA, toB, halvesOf, markOf}
-use Rattle.formula.specs.Nodes.{nodeIn}
+use Rattle.formula.specs.Tables.{nodeIn}
 use Rattle.formula.specs.Paths.{has}
-use Rattle.formula.specs.Sets.{renamed}
+use Rattle.formula.specs.Checks.{renamed}
 use Rattle.formula.specs.declared.mark.Mark.{Mark}
 use Rattle.formula.specs.declared.node.Node.{Node}
-use Rattle.clausal.specs.Algebra.{Row, unitRow, noRow}
+use Rattle.clausal.specs.Clauses.{Row, unitRow, noRow, Renaming, under, helperOf, nameOf, rowOf}
 use Rattle.clausal.specs.Output.{definitions}
-use Rattle.clausal.specs.Renamings.{Renaming, under, helperOf, nameOf}
-use Rattle.clausal.specs.Rows.{rowOf}
 use Rattle.clausal.specs.Totals.{Size, capped, clauseCeiling, totals}
 use Rattle.clausal.proofs.Related.{Keeps, Under, both, under-by, under-none}
 use Rattle.clausal.proofs.Renamed.{renamed-set-same, renamed-set-other}
@@ -92,7 +90,8 @@ module _ (ns : List Node) (below : (j : ℕ) → Below j (nodeIn ns j)) (u : Ren
   elsewhere : (j : ℕ) → eqb j i ≡ false → renamed (w .set) j ≡ renamed (u .set) j
   elsewhere j e = renamed-set-other (u .set) i 1 j (eqb-false j i e)
 
-  fewer-seen : (k : ℕ) → Under Fewer both (rowU k) (rowW k) → Under Fewer both (seenOf capped (nameOf u) ns k) (seenOf capped (nameOf w) ns k)
+  fewer-seen : (k : ℕ) → Under Fewer both (rowU k) (rowW k)
+      → Under Fewer both (seenOf capped (nameOf u) ns k) (seenOf capped (nameOf w) ns k)
   fewer-seen k h = go (eqb k i) refl (renamed (u .set) k) refl
     where
       go : (b : Bool) → eqb k i ≡ b → (c : Bool) → renamed (u .set) k ≡ c

@@ -8,12 +8,10 @@ use native.Mathlib.Numerals.{add-one}
 use native.Mathlib.Omega.{arith}
 use lib.ListN.{length}
 use Rattle.formula.specs.Marks.{markOf, halvesOf}
-use Rattle.formula.specs.Sets.{renamed}
+use Rattle.formula.specs.Checks.{renamed}
 use Rattle.formula.specs.declared.node.Node.{Node}
-use Rattle.clausal.specs.Algebra.{Algebra, Row}
+use Rattle.clausal.specs.Clauses.{Algebra, Row, Renaming, helperOf, nameOf, rowOf}
 use Rattle.clausal.specs.Output.{rootPart, downPart, upPart, definition, definitions, gather}
-use Rattle.clausal.specs.Renamings.{Renaming, helperOf, nameOf}
-use Rattle.clausal.specs.Rows.{rowOf}
 use Rattle.clausal.proofs.Options.{gather-append}
 use Rattle.totals.specs.Inner.Sums.{withPart, withNode, Low}
 

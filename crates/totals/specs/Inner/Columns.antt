@@ -7,13 +7,10 @@ use mathlib.Core.Path.{_≡_}
 use Prim.Native.Nat.{ℕ, _<_, _≤_}
 use lib.Dec.{ltb}
 use lib.ListN.{length, getD}
-use Rattle.formula.specs.Limits.{mostNodes, mostTable}
-use Rattle.formula.specs.Nodes.{nodeCount, nodesOf}
-use Rattle.formula.specs.Sets.{renamed}
+use Rattle.formula.specs.Tables.{mostNodes, mostTable, nodeCount, nodesOf}
+use Rattle.formula.specs.Checks.{renamed}
 use Rattle.formula.specs.declared.node.Node.{Node}
-use Rattle.clausal.specs.Algebra.{Row, unitRow, noRow, rowBy}
-use Rattle.clausal.specs.Renamings.{renaming, nameOf}
-use Rattle.clausal.specs.Rows.{rowOf}
+use Rattle.clausal.specs.Clauses.{Row, unitRow, noRow, rowBy, renaming, nameOf, rowOf}
 use Rattle.clausal.specs.Totals.{Size, capped}
 
 -- an entry: row 0 is for P, row 1 for N

@@ -3,7 +3,7 @@
 use mathlib.Core.Bool.{cond}
 use Prim.Native.Nat.{ℕ}
 use lib.Dec.{ltb}
-use Rattle.clausal.specs.Algebra as algebra
+use Rattle.clausal.specs.Clauses as algebra
 use Rattle.clausal.specs.Totals.{Size, clauseCeiling, literalCeiling}
 use Rattle.totals.specs.declared.rows.Row.{Row}
 use Rattle.totals.specs.declared.total.Total.{Total}

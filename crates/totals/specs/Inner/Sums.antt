@@ -8,13 +8,12 @@ use lib.ListN.{length, set}
 use Rattle.formula.specs.Inner.Held.{Marked}
 use Rattle.formula.specs.Inner.Right.{Below}
 use Rattle.formula.specs.Marks.{halvesOf}
-use Rattle.formula.specs.Nodes.{nodeCount, nodeIn, nodesOf}
-use Rattle.formula.specs.Sets.{renamed}
+use Rattle.formula.specs.Tables.{nodeCount, nodeIn, nodesOf}
+use Rattle.formula.specs.Checks.{renamed}
 use Rattle.formula.specs.declared.mark.Mark.{Mark}
 use Rattle.formula.specs.declared.node.Node.{Node}
-use Rattle.clausal.specs.Algebra.{Algebra, Row}
-use Rattle.clausal.specs.Choosing.{totalUnder}
-use Rattle.clausal.specs.Renamings.{renaming}
+use Rattle.clausal.specs.Clauses.{Algebra, Row, renaming}
+use Rattle.clausal.specs.Totals.{totalUnder}
 use Rattle.totals.specs.Inner.Columns.{Ready}
 
 module _ {C : Type 0} (A : Algebra C) where

@@ -4,10 +4,10 @@ use mathlib.Core.Bool.{false}
 use mathlib.Core.List.{List}
 use Prim.Native.Nat.{ℕ}
 use borrow.Author.Needs.{needs}
-use Rattle.answer.specs.Part.{Wrote}
+use Rattle.answer.specs.Answers.{Wrote}
 use Rattle.answer.proofs.Laws.Order.{tested, refused-wrote, accepted-wrote}
 use Rattle.formula.specs.Checks.{checked}
-use Rattle.formula.specs.Nodes.{nodesOf}
+use Rattle.formula.specs.Tables.{nodesOf}
 use Rattle.formula.proofs.Laws.WellFormed.{length-right, checked-accepted, accepted-well-formed}
 use Rattle.choose.proofs.Laws.Told.{chosen-options}
 use Rattle.choose.proofs.pass.choose.Statement.{statement}
@@ -36,7 +36,8 @@ chosen c =
     let check = if1 .before .before in
     let start = check .before .before .before in
     accepted-wrote _ _ _ (check .check .ensures) (if1 .before .is-refusal .ensures) (start .args .set .now) _ _ (if1 .if1 .left)
-    (under .choose-under .ensures ∙ chosen-options 0 (start .args .options) (nodesOf (start .args .table .now)) (start .args .allowance) (start .args .set .now))
+    (under .choose-under .ensures ∙ chosen-options 0 (start .args .options) (nodesOf (start .args .table .now)) (start .args .allowance)
+    (start .args .set .now))
 
 pub choose-spec : {M : Type 1} → statement M
 choose-spec =

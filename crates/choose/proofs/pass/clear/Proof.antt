@@ -23,8 +23,12 @@ loop-again c =
     let loop = c .before in
     let before = loop .before .args .set .now in
     let i = loop .loop .at in
-    let h : i < length before = omega arith in
-    (omega arith, length-set (loop .loop .set) i 0 ∙ loop .loop .inv .1, ap (λ (l : List ℕ). lib.ListN.set l i 0) (loop .loop .inv .2) ∙ fill-more i 0 before h)
+    let h : i < length before = omega arith in (
+      omega arith,
+      length-set (loop .loop .set) i 0 ∙ loop .loop .inv .1,
+      ap (λ (l : List ℕ). lib.ListN.set l i 0) (loop .loop .inv .2)
+          ∙ fill-more i 0 before h,
+    )
 
 same-length : tie.Need-same-length Inv-loop μ-loop
 same-length c = c .before .loop .inv .1

@@ -5,7 +5,7 @@ use native.Mathlib.Omega.{arith}
 use lib.ListN.{length}
 use borrow.Author.Needs.{needs}
 use borrow.Author.Tests.{not-true, not-false}
-use Rattle.formula.specs.Nodes.{nodesOf}
+use Rattle.formula.specs.Tables.{nodesOf}
 use Rattle.formula.proofs.Laws.Tables.{length-nodesOf}
 use Rattle.choose.proofs.Laws.Visits.{full, not-allowed, too-small, attempted}
 use Rattle.choose.proofs.pass.visit.Statement.{statement}
@@ -31,7 +31,8 @@ small c =
     let toward-start = is-small .before .before .before .before in
     let start = toward-start .before .before .before .before in
     let a = start .args in
-    too-small (a .allowance) (nodesOf (a .table .now)) (a .i) (a .picked .picks) (a .set .now) _ _ _ (start .pre .stands) (start .pre .below)
+    too-small (a .allowance) (nodesOf (a .table .now)) (a .i) (a .picked .picks) (a .set .now) _ _ _ (start .pre .stands)
+    (start .pre .below)
     (omega (arith, start .pre .inside, length-nodesOf (a .table .now))) (sym (is-small .is-small .ensures) ∙ c .if3 .taken)
 
 tried : tie.Need-returns-4

@@ -8,12 +8,10 @@ use native.Mathlib.Omega.{arith}
 use borrow.Author.Needs.{needs}
 use lib.ListN.{length, drop}
 use borrow.Author.Tests.{not-true, not-false}
-use Rattle.clausebytes.specs.Words.{wordsOf}
-use Rattle.clausebytes.specs.Right.{mostVariables}
+use Rattle.clausebytes.specs.Words.{wordsOf, mostVariables}
 use Rattle.clausebytes.proofs.Laws.Words.{words-next, words-end}
-use Rattle.clausebytes.proofs.Laws.Checking.{Checking, checking-start, checking-zero, checking-literal}
-use Rattle.clausebytes.proofs.Laws.Checking.{found-many, found-part, found-clause, found-magnitude, found-literal, found-open}
-use Rattle.clausebytes.proofs.Laws.Checking.{found-right}
+use Rattle.clausebytes.proofs.Laws.Checking.{Checking, checking-start, checking-zero, checking-literal, found-many, found-part}
+use Rattle.clausebytes.proofs.Laws.Checking.{found-clause, found-magnitude, found-literal, found-open, found-right}
 use Rattle.clausebytes.proofs.check.check.Statement.{statement}
 use Rattle.clausebytes.proofs.check.check.Tie as tie
 

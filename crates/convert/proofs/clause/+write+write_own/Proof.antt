@@ -10,7 +10,8 @@ use Rattle.answer.proofs.put.Reads as put-reads
 use Rattle.clausebytes.proofs.word.word.Reads as word-reads
 use Rattle.convert.specs.declared.step.Parts.the-variants.{Nothing, Literal, Left, Right, Both}
 use Rattle.convert.proofs.Laws.Put.{put-nothing, put-as}
-use Rattle.convert.proofs.Laws.Writes.{literal-room, literal-end, literal-put, due-own, put-own, due-helper, due-lead, due-leads, due-one, put-one, due-left, due-right, put-two, put-none}
+use Rattle.convert.proofs.Laws.Writes.{literal-room, literal-end, literal-put, due-own, put-own, due-helper, due-lead, due-leads}
+use Rattle.convert.proofs.Laws.Writes.{due-one, put-one, due-left, due-right, put-two, put-none}
 use Rattle.convert.proofs.step.lead.Reads as lead-reads
 use Rattle.convert.proofs.clause.write.Reads as write
 use Rattle.convert.proofs.clause.write.Kinds as write-kinds
@@ -62,40 +63,51 @@ module _ (t : ℕ) where
       let start = c .before .before .before .before in
       let a = start .args in
       let d = start .pre .1 in
-      literal-room _ _ (due-helper (a .table .now .now) (a .clauses .now) (a .literals .now) (a .helpers .now) (a .node) (a .sign) (a .k) (a .out .now) (a .at) d (c .before .before .if1 .taken)) _ (a .at) (d .fits)
+      literal-room _ _ (due-helper (a .table .now .now) (a .clauses .now) (a .literals .now) (a .helpers .now) (a .node) (a .sign) (a .k)
+      (a .out .now) (a .at) d (c .before .before .if1 .taken)) _ (a .at) (d .fits)
 
   helper-fits : write-lts.Need-add-result (write-calls t) (write-at t) write.Post
   helper-fits c =
       let toward-start = c .before .before .before .before in
       let a = toward-start .before .args in
       let d = toward-start .before .pre .1 in
-      record { fits = literal-end _ _ (due-helper (a .table .now .now) (a .clauses .now) (a .literals .now) (a .helpers .now) (a .node) (a .sign) (a .k) (a .out .now) (a .at) d (c .before .before .before .if1 .taken)) _ (a .at) (d .fits) }
+      record {
+        fits = literal-end _ _
+            (due-helper (a .table .now .now) (a .clauses .now) (a .literals .now) (a .helpers .now) (a .node) (a .sign) (a .k) (a .out .now)
+            (a .at) d (c .before .before .before .if1 .taken)) _ (a .at) (d .fits);
+      }
 
   helper-written : write-lts.Need-returns (write-calls t) (write-at t) write.Post
   helper-written c =
       let toward-start = c .before .before .before .before in
       let a = toward-start .before .args in
       let d = toward-start .before .pre .1 in
-      literal-put _ _ (due-helper (a .table .now .now) (a .clauses .now) (a .literals .now) (a .helpers .now) (a .node) (a .sign) (a .k) (a .out .now) (a .at) d (c .before .before .before .if1 .taken)) (a .out .now) (a .at) _ _
+      literal-put _ _ (due-helper (a .table .now .now) (a .clauses .now) (a .literals .now) (a .helpers .now) (a .node) (a .sign) (a .k)
+      (a .out .now) (a .at) d (c .before .before .before .if1 .taken)) (a .out .now) (a .at) _ _
       (c .before .word .ensures) (c .put .ensures)
 
   -- the node's own list
   own-next : write-lts.Need-write-own-requires (write-calls t) (write-at t) write.Post
   own-next c κs =
       let start = c .before .before .before in
-      let a = start .args in
-      (omega (arith, start .pre .0), due-own (a .table .now .now) (a .clauses .now) (a .literals .now) (a .helpers .now) (a .node) (a .sign) (a .k) (a .out .now) (a .at) (start .pre .1) (c .before .if1 .left))
+      let a = start .args in (
+        omega (arith, start .pre .0),
+        due-own (a .table .now .now) (a .clauses .now) (a .literals .now) (a .helpers .now) (a .node)
+            (a .sign) (a .k) (a .out .now) (a .at) (start .pre .1) (c .before .if1 .left),
+      )
 
   own-written : write-lts.Need-returns-2 (write-calls t) (write-at t) write.Post
   own-written c =
       let start = c .before .before .before .before in
       let a = start .args in
-      put-own (a .table .now .now) (a .clauses .now) (a .literals .now) (a .helpers .now) (a .node) (a .sign) (a .k) (a .out .now) (a .at) (start .pre .1) _ _ (c .before .before .if1 .left) (c .write-own .ensures)
+      put-own (a .table .now .now) (a .clauses .now) (a .literals .now) (a .helpers .now) (a .node) (a .sign) (a .k) (a .out .now) (a .at)
+      (start .pre .1) _ _ (c .before .before .if1 .left) (c .write-own .ensures)
 
   lead-next : write-own-lts.Need-lead-requires (own-calls t) (write-own-at t) write-own.Post
   lead-next c κs =
       let a = c .args in
-      due-lead (a .table .now .now) (a .clauses .now) (a .literals .now) (a .helpers .now) (a .node) (a .sign) (a .k) (a .out .now) (a .at) (c .pre .1)
+      due-lead (a .table .now .now) (a .clauses .now) (a .literals .now) (a .helpers .now) (a .node) (a .sign) (a .k) (a .out .now) (a .at)
+      (c .pre .1)
 
   word-next : write-own-lts.Need-word-requires (own-calls t) (write-own-at t) write-own.Post
   word-next c κs =
@@ -103,7 +115,8 @@ module _ (t : ℕ) where
       let lead = told .before .before .before .before in
       let a = lead .before .args in
       let d = lead .before .pre .1 in
-      due-leads (a .table .now .now) (a .clauses .now) (a .literals .now) (a .helpers .now) (a .node) (a .sign) (a .k) (a .out .now) (a .at) d (lead .lead .result) Literal (lead .lead .ensures) (told .enum-told2 .given .1) .0
+      due-leads (a .table .now .now) (a .clauses .now) (a .literals .now) (a .helpers .now) (a .node) (a .sign) (a .k) (a .out .now)
+      (a .at) d (lead .lead .result) Literal (lead .lead .ensures) (told .enum-told2 .given .1) .0
 
   room-for-literal : write-own-lts.Need-put-requires (own-calls t) (write-own-at t) write-own.Post
   room-for-literal c κs =
@@ -111,7 +124,8 @@ module _ (t : ℕ) where
       let lead = told .before .before .before .before in
       let a = lead .before .args in
       let d = lead .before .pre .1 in
-      literal-room _ _ (due-leads (a .table .now .now) (a .clauses .now) (a .literals .now) (a .helpers .now) (a .node) (a .sign) (a .k) (a .out .now) (a .at) d (lead .lead .result) Literal (lead .lead .ensures) (told .enum-told2 .given .1) .1) _ (a .at) (d .fits)
+      literal-room _ _ (due-leads (a .table .now .now) (a .clauses .now) (a .literals .now) (a .helpers .now) (a .node) (a .sign) (a .k)
+      (a .out .now) (a .at) d (lead .lead .result) Literal (lead .lead .ensures) (told .enum-told2 .given .1) .1) _ (a .at) (d .fits)
 
   literal-fits : write-own-lts.Need-add-result (own-calls t) (write-own-at t) write-own.Post
   literal-fits c =
@@ -119,7 +133,8 @@ module _ (t : ℕ) where
       let lead = told .before .before .before .before in
       let a = lead .before .args in
       let d = lead .before .pre .1 in
-      let l = due-leads (a .table .now .now) (a .clauses .now) (a .literals .now) (a .helpers .now) (a .node) (a .sign) (a .k) (a .out .now) (a .at) d (lead .lead .result) Literal (lead .lead .ensures) (told .enum-told2 .given .1) in
+      let l = due-leads (a .table .now .now) (a .clauses .now) (a .literals .now) (a .helpers .now) (a .node) (a .sign) (a .k)
+      (a .out .now) (a .at) d (lead .lead .result) Literal (lead .lead .ensures) (told .enum-told2 .given .1) in
       record { fits = literal-end _ _ (l .1) _ (a .at) (d .fits) }
 
   left-next : write-own-lts.Need-write-requires (own-calls t) (write-own-at t) write-own.Post
@@ -128,8 +143,12 @@ module _ (t : ℕ) where
       let lead = told .before .before .before .before in
       let a = lead .before .args in
       let d = lead .before .pre .1 in
-      let l = due-leads (a .table .now .now) (a .clauses .now) (a .literals .now) (a .helpers .now) (a .node) (a .sign) (a .k) (a .out .now) (a .at) d (lead .lead .result) Left (lead .lead .ensures) (told .enum-told3 .given .1) in
-      (omega (arith, lead .before .pre .0, l .0 .before), due-one (a .table .now .now) (a .clauses .now) (a .literals .now) (a .helpers .now) (a .node) (a .sign) (a .k) (a .out .now) (a .at) d _ (l .0) (l .1))
+      let l = due-leads (a .table .now .now) (a .clauses .now) (a .literals .now) (a .helpers .now) (a .node) (a .sign) (a .k)
+      (a .out .now) (a .at) d (lead .lead .result) Left (lead .lead .ensures) (told .enum-told3 .given .1) in (
+        omega (arith, lead .before .pre .0, l .0 .before),
+        due-one (a .table .now .now) (a .clauses .now) (a .literals .now)
+            (a .helpers .now) (a .node) (a .sign) (a .k) (a .out .now) (a .at) d _ (l .0) (l .1),
+      )
 
   right-next : write-own-lts.Need-write-requires-2 (own-calls t) (write-own-at t) write-own.Post
   right-next c κs =
@@ -137,8 +156,12 @@ module _ (t : ℕ) where
       let lead = told .before .before .before .before in
       let a = lead .before .args in
       let d = lead .before .pre .1 in
-      let l = due-leads (a .table .now .now) (a .clauses .now) (a .literals .now) (a .helpers .now) (a .node) (a .sign) (a .k) (a .out .now) (a .at) d (lead .lead .result) Right (lead .lead .ensures) (told .enum-told4 .given .1) in
-      (omega (arith, lead .before .pre .0, l .0 .before), due-one (a .table .now .now) (a .clauses .now) (a .literals .now) (a .helpers .now) (a .node) (a .sign) (a .k) (a .out .now) (a .at) d _ (l .0) (l .1))
+      let l = due-leads (a .table .now .now) (a .clauses .now) (a .literals .now) (a .helpers .now) (a .node) (a .sign) (a .k)
+      (a .out .now) (a .at) d (lead .lead .result) Right (lead .lead .ensures) (told .enum-told4 .given .1) in (
+        omega (arith, lead .before .pre .0, l .0 .before),
+        due-one (a .table .now .now) (a .clauses .now) (a .literals .now)
+            (a .helpers .now) (a .node) (a .sign) (a .k) (a .out .now) (a .at) d _ (l .0) (l .1),
+      )
 
   first-next : write-own-lts.Need-write-requires-3 (own-calls t) (write-own-at t) write-own.Post
   first-next c κs =
@@ -146,8 +169,12 @@ module _ (t : ℕ) where
       let lead = told .before .before .before .before in
       let a = lead .before .args in
       let d = lead .before .pre .1 in
-      let l = due-leads (a .table .now .now) (a .clauses .now) (a .literals .now) (a .helpers .now) (a .node) (a .sign) (a .k) (a .out .now) (a .at) d (lead .lead .result) Both (lead .lead .ensures) (told .enum-told5 .given .1) in
-      (omega (arith, lead .before .pre .0, l .0 .before), due-left (a .table .now .now) (a .clauses .now) (a .literals .now) (a .helpers .now) (a .node) (a .sign) (a .k) (a .out .now) (a .at) d _ _ (l .0) (l .1) (l .2))
+      let l = due-leads (a .table .now .now) (a .clauses .now) (a .literals .now) (a .helpers .now) (a .node) (a .sign) (a .k)
+      (a .out .now) (a .at) d (lead .lead .result) Both (lead .lead .ensures) (told .enum-told5 .given .1) in (
+        omega (arith, lead .before .pre .0, l .0 .before),
+        due-left (a .table .now .now) (a .clauses .now) (a .literals .now)
+            (a .helpers .now) (a .node) (a .sign) (a .k) (a .out .now) (a .at) d _ _ (l .0) (l .1) (l .2),
+      )
 
   second-next : write-own-lts.Need-write-requires-4 (own-calls t) (write-own-at t) write-own.Post
   second-next c κs =
@@ -155,9 +182,11 @@ module _ (t : ℕ) where
       let lead = told .before .before .before .before in
       let a = lead .before .args in
       let d = lead .before .pre .1 in
-      let l = due-leads (a .table .now .now) (a .clauses .now) (a .literals .now) (a .helpers .now) (a .node) (a .sign) (a .k) (a .out .now) (a .at) d (lead .lead .result) Both (lead .lead .ensures) (told .enum-told5 .given .1) in (
+      let l = due-leads (a .table .now .now) (a .clauses .now) (a .literals .now) (a .helpers .now) (a .node) (a .sign) (a .k)
+      (a .out .now) (a .at) d (lead .lead .result) Both (lead .lead .ensures) (told .enum-told5 .given .1) in (
         omega (arith, lead .before .pre .0, l .1 .before),
-        due-right (a .table .now .now) (a .clauses .now) (a .literals .now) (a .helpers .now) (a .node) (a .sign) (a .k) (a .out .now) (a .at) d _ _ (l .0) (l .1) (l .2) _ _ (c .before .write3 .ensures),
+        due-right (a .table .now .now) (a .clauses .now) (a .literals .now) (a .helpers .now) (a .node) (a .sign) (a .k) (a .out .now)
+            (a .at) d _ _ (l .0) (l .1) (l .2) _ _ (c .before .write3 .ensures),
       )
 
   nothing-written : write-own-lts.Need-returns (own-calls t) (write-own-at t) write-own.Post
@@ -166,7 +195,9 @@ module _ (t : ℕ) where
       let lead = told .before .before .before .before in
       let a = lead .before .args in
       let d = lead .before .pre .1 in
-      put-none (a .table .now .now) (a .clauses .now) (a .literals .now) (a .helpers .now) (a .node) (a .sign) (a .k) (a .out .now) (a .at) d (due-leads (a .table .now .now) (a .clauses .now) (a .literals .now) (a .helpers .now) (a .node) (a .sign) (a .k) (a .out .now) (a .at) d (lead .lead .result) Nothing (lead .lead .ensures) (told .enum-told .given .1))
+      put-none (a .table .now .now) (a .clauses .now) (a .literals .now) (a .helpers .now) (a .node) (a .sign) (a .k) (a .out .now)
+      (a .at) d (due-leads (a .table .now .now) (a .clauses .now) (a .literals .now) (a .helpers .now) (a .node) (a .sign) (a .k)
+      (a .out .now) (a .at) d (lead .lead .result) Nothing (lead .lead .ensures) (told .enum-told .given .1))
 
   literal-written : write-own-lts.Need-returns-2 (own-calls t) (write-own-at t) write-own.Post
   literal-written c =
@@ -174,7 +205,9 @@ module _ (t : ℕ) where
       let lead = told .before .before .before .before in
       let a = lead .before .args in
       let d = lead .before .pre .1 in
-      literal-put _ _ (due-leads (a .table .now .now) (a .clauses .now) (a .literals .now) (a .helpers .now) (a .node) (a .sign) (a .k) (a .out .now) (a .at) d (lead .lead .result) Literal (lead .lead .ensures) (told .enum-told2 .given .1) .1) (a .out .now) (a .at) _ _
+      literal-put _ _ (due-leads (a .table .now .now) (a .clauses .now) (a .literals .now) (a .helpers .now) (a .node) (a .sign) (a .k)
+      (a .out .now) (a .at) d (lead .lead .result) Literal (lead .lead .ensures) (told .enum-told2 .given .1) .1) (a .out .now)
+      (a .at) _ _
       (c .before .word .ensures) (c .put .ensures)
 
   left-written : write-own-lts.Need-returns-3 (own-calls t) (write-own-at t) write-own.Post
@@ -183,8 +216,10 @@ module _ (t : ℕ) where
       let lead = told .before .before .before .before in
       let a = lead .before .args in
       let d = lead .before .pre .1 in
-      let l = due-leads (a .table .now .now) (a .clauses .now) (a .literals .now) (a .helpers .now) (a .node) (a .sign) (a .k) (a .out .now) (a .at) d (lead .lead .result) Left (lead .lead .ensures) (told .enum-told3 .given .1) in
-      put-one (a .table .now .now) (a .clauses .now) (a .literals .now) (a .helpers .now) (a .node) (a .sign) (a .k) (a .out .now) (a .at) d _ (l .0) (l .1) _ _ (c .write .ensures)
+      let l = due-leads (a .table .now .now) (a .clauses .now) (a .literals .now) (a .helpers .now) (a .node) (a .sign) (a .k)
+      (a .out .now) (a .at) d (lead .lead .result) Left (lead .lead .ensures) (told .enum-told3 .given .1) in
+      put-one (a .table .now .now) (a .clauses .now) (a .literals .now) (a .helpers .now) (a .node) (a .sign) (a .k) (a .out .now)
+      (a .at) d _ (l .0) (l .1) _ _ (c .write .ensures)
 
   right-written : write-own-lts.Need-returns-4 (own-calls t) (write-own-at t) write-own.Post
   right-written c =
@@ -192,8 +227,10 @@ module _ (t : ℕ) where
       let lead = told .before .before .before .before in
       let a = lead .before .args in
       let d = lead .before .pre .1 in
-      let l = due-leads (a .table .now .now) (a .clauses .now) (a .literals .now) (a .helpers .now) (a .node) (a .sign) (a .k) (a .out .now) (a .at) d (lead .lead .result) Right (lead .lead .ensures) (told .enum-told4 .given .1) in
-      put-one (a .table .now .now) (a .clauses .now) (a .literals .now) (a .helpers .now) (a .node) (a .sign) (a .k) (a .out .now) (a .at) d _ (l .0) (l .1) _ _ (c .write2 .ensures)
+      let l = due-leads (a .table .now .now) (a .clauses .now) (a .literals .now) (a .helpers .now) (a .node) (a .sign) (a .k)
+      (a .out .now) (a .at) d (lead .lead .result) Right (lead .lead .ensures) (told .enum-told4 .given .1) in
+      put-one (a .table .now .now) (a .clauses .now) (a .literals .now) (a .helpers .now) (a .node) (a .sign) (a .k) (a .out .now)
+      (a .at) d _ (l .0) (l .1) _ _ (c .write2 .ensures)
 
   both-written : write-own-lts.Need-returns-5 (own-calls t) (write-own-at t) write-own.Post
   both-written c =
@@ -201,8 +238,10 @@ module _ (t : ℕ) where
       let lead = told .before .before .before .before in
       let a = lead .before .args in
       let d = lead .before .pre .1 in
-      let l = due-leads (a .table .now .now) (a .clauses .now) (a .literals .now) (a .helpers .now) (a .node) (a .sign) (a .k) (a .out .now) (a .at) d (lead .lead .result) Both (lead .lead .ensures) (told .enum-told5 .given .1) in
-      put-two (a .table .now .now) (a .clauses .now) (a .literals .now) (a .helpers .now) (a .node) (a .sign) (a .k) (a .out .now) (a .at) d _ _ (l .0) (l .1) (l .2) _ _ (c .before .before .write3 .ensures) _ _ (c .write4 .ensures)
+      let l = due-leads (a .table .now .now) (a .clauses .now) (a .literals .now) (a .helpers .now) (a .node) (a .sign) (a .k)
+      (a .out .now) (a .at) d (lead .lead .result) Both (lead .lead .ensures) (told .enum-told5 .given .1) in
+      put-two (a .table .now .now) (a .clauses .now) (a .literals .now) (a .helpers .now) (a .node) (a .sign) (a .k) (a .out .now)
+      (a .at) d _ _ (l .0) (l .1) (l .2) _ _ (c .before .before .write3 .ensures) _ _ (c .write4 .ensures)
 
 pub +write+write-own-spec : {M : Type 1} → statement M
 +write+write-own-spec =

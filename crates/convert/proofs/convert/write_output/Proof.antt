@@ -6,7 +6,7 @@ use native.Mathlib.Omega.{arith}
 use denote.Ref.{RefT}
 use borrow.Author.Needs.{needs}
 use Rattle.laws.specs.Lists.{splice}
-use Rattle.clausal.specs.Literals.{Clause, clausesBytes}
+use Rattle.clausal.specs.Clauses.{Clause, clausesBytes}
 use Rattle.convert.proofs.Laws.Written.{unnamed, parts-are, output-due}
 use Rattle.convert.proofs.convert.write_output.Statement.{statement}
 use Rattle.convert.proofs.convert.write_output.Tie as tie
@@ -23,7 +23,8 @@ room c κs =
     let toward-start = names .before .before .before .before in
     let start = toward-start .before in
     let a = start .args in
-    output-due (a .t1 .now) (a .taken) (a .marks .now) (a .set .now) (a .clauses .now) (a .literals .now) (start .pre .prepared) _ (names .name-all .ensures .1) (a .out .now) (omega (arith, start .good)) (start .pre .fits)
+    output-due (a .t1 .now) (a .taken) (a .marks .now) (a .set .now) (a .clauses .now) (a .literals .now) (start .pre .prepared) _
+    (names .name-all .ensures .1) (a .out .now) (omega (arith, start .good)) (start .pre .fits)
 
 written : tie.Need-returns
 written c =
@@ -37,7 +38,9 @@ written c =
       names .name-all .ensures .0,
       out .out .given .1 .0 (sym (ap (λ (x : RefT (List ℕ)). x .name) bytes))
           ∙ ap (λ (x : RefT (List ℕ)). x .now) bytes
-          ∙ ap (λ (l : List Clause). splice (a .out .now) 0 (clausesBytes l)) (parts-are (a .t1 .now) (a .taken) (a .marks .now) (a .set .now) (a .clauses .now) (a .literals .now) (start .pre .prepared) _ (names .name-all .ensures .1)),
+          ∙ ap (λ (l : List Clause). splice (a .out .now) 0 (clausesBytes l))
+          (parts-are (a .t1 .now) (a .taken) (a .marks .now) (a .set .now) (a .clauses .now) (a .literals .now)
+          (start .pre .prepared) _ (names .name-all .ensures .1)),
     )
 
 pub write-output-spec : {M : Type 1} → statement M

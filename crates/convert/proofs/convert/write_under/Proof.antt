@@ -15,9 +15,11 @@ refused c =
     let start = fit .before .before .before .before in
     let a = start .args in
     let p = start .pre .prepared in
-    let e = fits-as-output (a .table .now) (a .taken) (a .marks .now) (a .set .now) (a .clauses .now) (a .literals .now) p _ (start .pre .whole) (a .out .now) _ (fit .fit .ensures) in
+    let e = fits-as-output (a .table .now) (a .taken) (a .marks .now) (a .set .now) (a .clauses .now) (a .literals .now) p _
+    (start .pre .whole) (a .out .now) _ (fit .fit .ensures) in
     refused-wrote _ _ _ e (c .before .is-refusal .ensures) (a .out .now) _ (c .if1 .taken)
-    ∙ written-under (a .table .now) (a .taken) (a .marks .now) (a .set .now) (a .clauses .now) (a .literals .now) p (sized (a .sum)) (start .pre .whole) (a .out .now)
+    ∙ written-under (a .table .now) (a .taken) (a .marks .now) (a .set .now) (a .clauses .now) (a .literals .now) p (sized (a .sum))
+    (start .pre .whole) (a .out .now)
 
 room : tie.Need-write-output-requires
 room c κs =
@@ -25,7 +27,8 @@ room c κs =
     let fit = if1 .before .before in
     let start = fit .before .before .before .before in
     let a = start .args in
-    let e = fits-as-output (a .table .now) (a .taken) (a .marks .now) (a .set .now) (a .clauses .now) (a .literals .now) (start .pre .prepared) _ (start .pre .whole) (a .out .now) _ (fit .fit .ensures) in
+    let e = fits-as-output (a .table .now) (a .taken) (a .marks .now) (a .set .now) (a .clauses .now) (a .literals .now)
+    (start .pre .prepared) _ (start .pre .whole) (a .out .now) _ (fit .fit .ensures) in
     record { prepared = start .pre .prepared; fits = tested _ _ _ e (if1 .before .is-refusal .ensures) false (if1 .if1 .left) }
 
 written : tie.Need-returns-2
@@ -36,11 +39,14 @@ written c =
     let start = fit .before .before .before .before in
     let a = start .args in
     let p = start .pre .prepared in
-    let e = fits-as-output (a .table .now) (a .taken) (a .marks .now) (a .set .now) (a .clauses .now) (a .literals .now) p _ (start .pre .whole) (a .out .now) _ (fit .fit .ensures) in
+    let e = fits-as-output (a .table .now) (a .taken) (a .marks .now) (a .set .now) (a .clauses .now) (a .literals .now) p _
+    (start .pre .whole) (a .out .now) _ (fit .fit .ensures) in
     let ok = tested _ _ _ e (if1 .before .is-refusal .ensures) false (if1 .if1 .left) in
     accepted-wrote _ _ _ e (if1 .before .is-refusal .ensures) (a .out .now) _ _ (if1 .if1 .left)
-    (reported-is (a .table .now) (a .taken) (a .marks .now) (a .set .now) (a .clauses .now) (a .literals .now) p (sized (a .sum)) (start .pre .whole) (a .out .now) _ _ ok (write .write-output .ensures .0) (write .write-output .ensures .1))
-    ∙ written-under (a .table .now) (a .taken) (a .marks .now) (a .set .now) (a .clauses .now) (a .literals .now) p (sized (a .sum)) (start .pre .whole) (a .out .now)
+    (reported-is (a .table .now) (a .taken) (a .marks .now) (a .set .now) (a .clauses .now) (a .literals .now) p (sized (a .sum))
+    (start .pre .whole) (a .out .now) _ _ ok (write .write-output .ensures .0) (write .write-output .ensures .1))
+    ∙ written-under (a .table .now) (a .taken) (a .marks .now) (a .set .now) (a .clauses .now) (a .literals .now) p (sized (a .sum))
+    (start .pre .whole) (a .out .now)
 
 pub write-under-spec : {M : Type 1} → statement M
 write-under-spec =

@@ -4,7 +4,7 @@ use mathlib.Core.Path.{_≡_, ap}
 use native.Mathlib.Omega.{arith}
 use borrow.Author.Needs.{needs}
 use borrow.Author.Tests.{not-true, not-false}
-use Rattle.clausal.specs.Literals.{literalBytes}
+use Rattle.clausal.specs.Clauses.{literalBytes}
 use Rattle.convert.specs.Inner.Lists.{shownAll}
 use Rattle.convert.proofs.Laws.Parts.{not-here, no-helper, helper-here}
 use Rattle.convert.proofs.Laws.Put.{put-nothing, put-as}
@@ -15,7 +15,8 @@ use Rattle.convert.proofs.part.put_helper.Tie as tie
 elsewhere : tie.Need-returns
 elsewhere c =
     let a = c .before .args in
-    put-as (ap (shownAll literalBytes) (not-here (a .here) (a .plain) (a .helper) (not-true (a .here) (c .if1 .taken)))) (put-nothing (a .out .now) (a .at))
+    put-as (ap (shownAll literalBytes) (not-here (a .here) (a .plain) (a .helper) (not-true (a .here) (c .if1 .taken))))
+    (put-nothing (a .out .now) (a .at))
 
 none : tie.Need-returns-2
 none c =

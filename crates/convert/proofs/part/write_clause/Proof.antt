@@ -3,7 +3,7 @@ use mathlib.Core.List.{[]}
 use native.Mathlib.Omega.{arith}
 use lib.ListN.{getD}
 use borrow.Author.Needs.{needs}
-use Rattle.formula.specs.Nodes.{nodesOf}
+use Rattle.formula.specs.Tables.{nodesOf}
 use Rattle.convert.specs.Inner.Lists.{namesIn, ownList}
 use Rattle.convert.proofs.Laws.Parts.{fits-front, fits-own, fits-behind, room-zero, end-zero, put-closed}
 use Rattle.convert.proofs.part.write_clause.Statement.{statement}
@@ -12,7 +12,9 @@ use Rattle.convert.proofs.part.write_clause.Tie as tie
 front : tie.Need-put-helper-requires
 front c κs =
     let a = c .before .before .args in
-    fits-front (namesIn (a .helpers .now) (a .node)) (a .sign) (getD (ownList (namesIn (a .helpers .now)) (nodesOf (a .table .now .now)) (a .node) (a .sign)) (a .k) []) (a .out .now) (a .at) (c .before .before .pre .fits)
+    fits-front (namesIn (a .helpers .now) (a .node)) (a .sign)
+    (getD (ownList (namesIn (a .helpers .now)) (nodesOf (a .table .now .now)) (a .node) (a .sign)) (a .k) []) (a .out .now) (a .at)
+    (c .before .before .pre .fits)
 
 own : tie.Need-write-own-requires
 own c κs =
@@ -24,7 +26,9 @@ own c κs =
       inside = start .pre .inside;
       has = start .pre .has;
       short = start .pre .short;
-      fits = fits-own (namesIn (a .helpers .now) (a .node)) (a .sign) (getD (ownList (namesIn (a .helpers .now)) (nodesOf (a .table .now .now)) (a .node) (a .sign)) (a .k) []) (a .out .now) (a .at) (start .pre .fits) _ _ (first .put-helper .ensures);
+      fits = fits-own (namesIn (a .helpers .now) (a .node)) (a .sign)
+          (getD (ownList (namesIn (a .helpers .now)) (nodesOf (a .table .now .now)) (a .node) (a .sign)) (a .k) []) (a .out .now) (a .at)
+          (start .pre .fits) _ _ (first .put-helper .ensures);
     }
 
 behind : tie.Need-put-helper-requires-2
@@ -33,7 +37,9 @@ behind c κs =
     let first = own .before .before in
     let start = first .before .before .before in
     let a = start .args in
-    fits-behind (namesIn (a .helpers .now) (a .node)) (a .sign) (getD (ownList (namesIn (a .helpers .now)) (nodesOf (a .table .now .now)) (a .node) (a .sign)) (a .k) []) (a .out .now) (a .at) (start .pre .fits) _ _ (first .put-helper .ensures) _ _ (own .write-own .ensures)
+    fits-behind (namesIn (a .helpers .now) (a .node)) (a .sign)
+    (getD (ownList (namesIn (a .helpers .now)) (nodesOf (a .table .now .now)) (a .node) (a .sign)) (a .k) []) (a .out .now) (a .at)
+    (start .pre .fits) _ _ (first .put-helper .ensures) _ _ (own .write-own .ensures)
 
 zero : tie.Need-put-requires
 zero c κs =
@@ -42,7 +48,9 @@ zero c κs =
     let first = own .before .before in
     let start = first .before .before .before in
     let a = start .args in
-    room-zero (namesIn (a .helpers .now) (a .node)) (a .sign) (getD (ownList (namesIn (a .helpers .now)) (nodesOf (a .table .now .now)) (a .node) (a .sign)) (a .k) []) (a .out .now) (a .at) (start .pre .fits) _ _ (first .put-helper .ensures) _ _ (own .write-own .ensures) _ _ (last .put-helper2 .ensures)
+    room-zero (namesIn (a .helpers .now) (a .node)) (a .sign)
+    (getD (ownList (namesIn (a .helpers .now)) (nodesOf (a .table .now .now)) (a .node) (a .sign)) (a .k) []) (a .out .now) (a .at)
+    (start .pre .fits) _ _ (first .put-helper .ensures) _ _ (own .write-own .ensures) _ _ (last .put-helper2 .ensures)
 
 end : tie.Need-add-result
 end c =
@@ -51,7 +59,11 @@ end c =
     let first = own .before .before in
     let start = first .before .before .before in
     let a = start .args in
-    record { fits = end-zero (namesIn (a .helpers .now) (a .node)) (a .sign) (getD (ownList (namesIn (a .helpers .now)) (nodesOf (a .table .now .now)) (a .node) (a .sign)) (a .k) []) (a .out .now) (a .at) (start .pre .fits) _ _ (first .put-helper .ensures) _ _ (own .write-own .ensures) _ _ (last .put-helper2 .ensures) }
+    record {
+      fits = end-zero (namesIn (a .helpers .now) (a .node)) (a .sign)
+          (getD (ownList (namesIn (a .helpers .now)) (nodesOf (a .table .now .now)) (a .node) (a .sign)) (a .k) []) (a .out .now) (a .at)
+          (start .pre .fits) _ _ (first .put-helper .ensures) _ _ (own .write-own .ensures) _ _ (last .put-helper2 .ensures);
+    }
 
 written : tie.Need-returns
 written c =
@@ -60,7 +72,9 @@ written c =
     let first = own .before .before in
     let start = first .before .before .before in
     let a = start .args in
-    put-closed (namesIn (a .helpers .now) (a .node)) (a .sign) (getD (ownList (namesIn (a .helpers .now)) (nodesOf (a .table .now .now)) (a .node) (a .sign)) (a .k) []) (a .out .now) (a .at) (start .pre .fits) _ _ (first .put-helper .ensures) _ _ (own .write-own .ensures) _ _ (last .put-helper2 .ensures)
+    put-closed (namesIn (a .helpers .now) (a .node)) (a .sign)
+    (getD (ownList (namesIn (a .helpers .now)) (nodesOf (a .table .now .now)) (a .node) (a .sign)) (a .k) []) (a .out .now) (a .at)
+    (start .pre .fits) _ _ (first .put-helper .ensures) _ _ (own .write-own .ensures) _ _ (last .put-helper2 .ensures)
     _ (c .put .ensures)
 
 pub write-clause-spec : {M : Type 1} → statement M

@@ -10,7 +10,8 @@ use Rattle.convert.proofs.part.write_definition.Tie as tie
 not-renamed : tie.Need-returns
 not-renamed c =
     let a = c .before .before .args in
-    undefined (a .table .now .now) (a .clauses .now) (a .literals .now) (a .helpers .now) (a .marks .now) (a .node) (a .out .now) (a .at) (c .before .before .pre) (c .if1 .taken)
+    undefined (a .table .now .now) (a .clauses .now) (a .literals .now) (a .helpers .now) (a .marks .now) (a .node) (a .out .now) (a .at)
+    (c .before .before .pre) (c .if1 .taken)
 
 down : tie.Need-write-part-requires
 down c κs =
@@ -18,7 +19,8 @@ down c κs =
     let read = halves .before in
     let start = read .before .before .before in
     let a = start .args in
-    due-down (a .table .now .now) (a .clauses .now) (a .literals .now) (a .helpers .now) (a .marks .now) (a .node) (a .out .now) (a .at) (start .pre) (read .before .if1 .left) _ (halves .halves-of .ensures ∙ ap halvesOf (read .read .ensures))
+    due-down (a .table .now .now) (a .clauses .now) (a .literals .now) (a .helpers .now) (a .marks .now) (a .node) (a .out .now) (a .at)
+    (start .pre) (read .before .if1 .left) _ (halves .halves-of .ensures ∙ ap halvesOf (read .read .ensures))
 
 up : tie.Need-write-part-requires-2
 up c κs =
@@ -27,7 +29,8 @@ up c κs =
     let read = halves .before in
     let start = read .before .before .before in
     let a = start .args in
-    due-up (a .table .now .now) (a .clauses .now) (a .literals .now) (a .helpers .now) (a .marks .now) (a .node) (a .out .now) (a .at) (start .pre) (read .before .if1 .left) _ (halves .halves-of .ensures ∙ ap halvesOf (read .read .ensures))
+    due-up (a .table .now .now) (a .clauses .now) (a .literals .now) (a .helpers .now) (a .marks .now) (a .node) (a .out .now) (a .at)
+    (start .pre) (read .before .if1 .left) _ (halves .halves-of .ensures ∙ ap halvesOf (read .read .ensures))
     _ _ (first .write-part .ensures)
 
 both : tie.Need-returns-2
@@ -37,7 +40,8 @@ both c =
     let read = halves .before in
     let start = read .before .before .before in
     let a = start .args in
-    put-defined (a .table .now .now) (a .clauses .now) (a .literals .now) (a .helpers .now) (a .marks .now) (a .node) (a .out .now) (a .at) (start .pre) (read .before .if1 .left) _ (halves .halves-of .ensures ∙ ap halvesOf (read .read .ensures))
+    put-defined (a .table .now .now) (a .clauses .now) (a .literals .now) (a .helpers .now) (a .marks .now) (a .node) (a .out .now) (a .at)
+    (start .pre) (read .before .if1 .left) _ (halves .halves-of .ensures ∙ ap halvesOf (read .read .ensures))
     _ _ (first .write-part .ensures) _ _ (c .write-part2 .ensures)
 
 pub write-definition-spec : {M : Type 1} → statement M

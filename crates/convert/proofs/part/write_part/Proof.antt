@@ -6,8 +6,8 @@ use Prim.Native.Nat.{ℕ, _-_}
 use native.Mathlib.Omega.{arith}
 use borrow.Author.Needs.{needs}
 use borrow.Author.Tests.{not-true, not-false}
-use Rattle.formula.specs.Nodes.{nodesOf}
-use Rattle.clausal.specs.Literals.{clausesBytes}
+use Rattle.formula.specs.Tables.{nodesOf}
+use Rattle.clausal.specs.Clauses.{clausesBytes}
 use Rattle.convert.specs.Inner.Lists.{namesIn}
 use Rattle.convert.specs.Inner.Parts.{half, PartDue}
 use Rattle.convert.proofs.Laws.Loops.{Writing, writing-start, writing-next, writing-step, writing-end}
@@ -25,7 +25,8 @@ abbrev μ-loop : tie.MeasureT-loop
 none : tie.Need-returns Inv-loop μ-loop
 none c =
     let a = c .before .args in
-    put-as (ap (λ (b : Bool). clausesBytes (half (namesIn (a .helpers .now)) (nodesOf (a .table .now .now)) b (a .node) (a .sign))) (not-true (a .has) (c .if1 .taken)))
+    put-as (ap (λ (b : Bool). clausesBytes (half (namesIn (a .helpers .now)) (nodesOf (a .table .now .now)) b (a .node) (a .sign)))
+    (not-true (a .has) (c .if1 .taken)))
     (put-nothing (a .out .now) (a .at))
 
 loop-holds : tie.Need-loop-holds Inv-loop μ-loop
@@ -33,8 +34,12 @@ loop-holds c =
     let start = c .before .before in
     let a = start .args in
     let has = not-false (a .has) (c .before .if1 .left) in
-    let due = subst (λ (b : Bool). PartDue (a .table .now .now) (a .clauses .now) (a .literals .now) (a .helpers .now) b (a .node) (a .sign) (a .out .now .now) (a .at)) has (start .pre) in
-    (has, writing-start (a .table .now .now) (a .clauses .now) (a .literals .now) (a .helpers .now) (a .node) (a .sign) (a .out .now) (a .at) _ due (c .own-count .ensures .0))
+    let due = subst (λ (b : Bool). PartDue (a .table .now .now) (a .clauses .now) (a .literals .now) (a .helpers .now) b (a .node)
+    (a .sign) (a .out .now .now) (a .at)) has (start .pre) in (
+      has,
+      writing-start (a .table .now .now) (a .clauses .now) (a .literals .now) (a .helpers .now) (a .node) (a .sign) (a .out .now)
+          (a .at) _ due (c .own-count .ensures .0),
+    )
 
 next : tie.Need-write-clause-requires Inv-loop μ-loop
 next c κs = writing-next _ _ _ _ _ _ _ _ _ _ _ _ (c .before .before .loop .inv .1) (omega arith)
@@ -48,7 +53,8 @@ returns : tie.Need-returns-2 Inv-loop μ-loop
 returns c =
     let loop = c .before in
     let a = loop .before .before .before .args in
-    put-as (ap (λ (b : Bool). clausesBytes (half (namesIn (a .helpers .now)) (nodesOf (a .table .now .now)) b (a .node) (a .sign))) (loop .loop .inv .0))
+    put-as (ap (λ (b : Bool). clausesBytes (half (namesIn (a .helpers .now)) (nodesOf (a .table .now .now)) b (a .node) (a .sign)))
+    (loop .loop .inv .0))
     (writing-end _ _ _ _ _ _ _ _ _ _ _ _ (loop .loop .inv .1) (omega arith))
 
 pub write-part-spec : {M : Type 1} → statement M

@@ -6,7 +6,7 @@ use borrow.Author.Needs.{needs}
 use lib.ListN.{length}
 use Rattle.laws.specs.Numbers.{little}
 use Rattle.laws.proofs.Stored.{stored-nothing, stored-as}
-use Rattle.clausal.specs.Literals.{wordOf}
+use Rattle.clausal.specs.Clauses.{wordOf}
 use mathlib.Core.Bool.{false}
 use Rattle.clausebytes.proofs.Laws.Words.{complement-bytes}
 use Rattle.dimacs.specs.Inner.Table.{tokenBytes}

@@ -7,7 +7,7 @@ use native.Mathlib.Omega.{arith}
 use borrow.Author.Needs.{needs}
 use lib.ListN.{length, getD, drop}
 use Rattle.laws.specs.Automata.{run, output}
-use Rattle.laws.specs.Lists.{Stored}
+use Rattle.laws.specs.Inner.Stores.{Stored}
 use Rattle.laws.proofs.Automata.{run-next, run-end, output-next, output-end}
 use Rattle.laws.proofs.Stored.{Storing, storing-start, storing-room, storing-length, storing-more, storing-end}
 use Rattle.dimacs.specs.Inner.Table.{tokenBytes, tokenFor}

@@ -5,7 +5,7 @@ use native.Mathlib.Omega.{arith}
 use borrow.Author.Needs.{needs}
 use lib.ListN.{length}
 use Rattle.laws.proofs.Stored.{room-left, room-right, stored-both}
-use Rattle.text.specs.Decimals.{decimal}
+use Rattle.text.specs.Texts.{decimal}
 use Rattle.dimacs.proofs.writer.put_header.Statement.{statement}
 use Rattle.dimacs.proofs.writer.put_header.Tie as tie
 

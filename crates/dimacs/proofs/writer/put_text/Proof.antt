@@ -5,10 +5,10 @@ use Prim.Native.Nat.{ℕ, _+_, _≤_}
 use native.Mathlib.Omega.{arith}
 use borrow.Author.Needs.{needs}
 use lib.ListN.{length}
-use Rattle.laws.specs.Lists.{Stored}
+use Rattle.laws.specs.Inner.Stores.{Stored}
 use Rattle.laws.proofs.Stored.{room-left, room-right, stored-both}
 use Rattle.clausebytes.specs.Words.{wordsOf}
-use Rattle.dimacs.specs.Written.{headerLine}
+use Rattle.dimacs.specs.Texts.{headerLine}
 use Rattle.dimacs.specs.Inner.Words.{wordsText}
 use Rattle.dimacs.proofs.writer.put_text.Statement.{statement}
 use Rattle.dimacs.proofs.writer.put_text.Tie as tie

@@ -5,9 +5,9 @@ use Prim.Native.Nat.{ℕ, _+_, _≤_}
 use native.Mathlib.Omega.{arith}
 use borrow.Author.Needs.{needs}
 use lib.ListN.{length}
-use Rattle.laws.specs.Lists.{Stored}
+use Rattle.laws.specs.Inner.Stores.{Stored}
 use Rattle.laws.proofs.Stored.{room-right, stored-both, stored-as}
-use Rattle.text.specs.Decimals.{decimal}
+use Rattle.text.specs.Texts.{decimal}
 use Rattle.clausebytes.specs.Words.{literalOf}
 use Rattle.dimacs.proofs.Laws.Written.{zero-text, plain-text, negated-text}
 use Rattle.dimacs.proofs.writer.put_word.Statement.{statement}

@@ -4,7 +4,7 @@ use Prim.Native.Nat.{ℕ, _≤_}
 use native.Mathlib.Omega.{arith}
 use borrow.Author.Needs.{needs}
 use lib.ListN.{length}
-use Rattle.text.specs.Decimals.{decimal}
+use Rattle.text.specs.Texts.{decimal}
 use Rattle.clausebytes.specs.Words.{literalOf}
 use Rattle.dimacs.proofs.Laws.Written.{width-least, sign-is, word-size}
 use Rattle.dimacs.proofs.writer.word_size.Statement.{statement}

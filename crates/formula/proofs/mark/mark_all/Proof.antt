@@ -3,8 +3,7 @@
 use mathlib.Core.Path.{subst}
 use Prim.Native.Nat.{ℕ, _≤_}
 use native.Mathlib.Omega.{arith}
-use Rattle.formula.specs.Limits.{mostNodes}
-use Rattle.formula.specs.Nodes.{nodeCount}
+use Rattle.formula.specs.Tables.{mostNodes, nodeCount}
 use Rattle.formula.proofs.Laws.Passing.{Passing, passing-start, passing-step, passing-end}
 use Rattle.formula.proofs.mark.mark_all.Statement.{statement}
 use Rattle.formula.proofs.mark.mark_all.Tie as tie
@@ -17,15 +16,19 @@ abbrev μ-loop : tie.MeasureT-loop
 
 loop-holds : tie.Need-loop-holds Inv-loop μ-loop
 loop-holds c =
-    let start = c .before in
-    (omega arith, passing-start (start .args .table .now) (start .args .marks .now) (start .pre .zeros) (omega (arith, start .pre .size .some)) (omega (arith, start .pre .size .most)))
+    let start = c .before in (
+      omega arith,
+      passing-start (start .args .table .now) (start .args .marks .now) (start .pre .zeros)
+          (omega (arith, start .pre .size .some)) (omega (arith, start .pre .size .most)),
+    )
 
 loop-again : tie.Need-loop-again Inv-loop μ-loop
 loop-again c =
     let loop = c .before .before .before .before in
     let t = loop .before .before .args .table .now in (
       omega arith,
-      passing-step t (loop .loop .i) (loop .loop .marks) (c .pass .last .0) (c .before .node-at .result) (loop .loop .inv .1) (omega arith) (omega arith)
+      passing-step t (loop .loop .i) (loop .loop .marks) (c .pass .last .0) (c .before .node-at .result) (loop .loop .inv .1) (omega arith)
+          (omega arith)
           (c .before .node-at .ensures) (c .pass .ensures),
     )
 

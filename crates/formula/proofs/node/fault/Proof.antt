@@ -3,7 +3,7 @@ use mathlib.Core.Path.{_≡_, sym, ap, _∙_}
 use mathlib.Core.Bool.{Bool, true, false}
 use borrow.Author.Needs.{needs}
 use borrow.Author.Tests.{not-true, not-false}
-use Rattle.formula.specs.Records.{known, useOfA, useOfB, fieldRight}
+use Rattle.formula.specs.Tables.{known, useOfA, useOfB, fieldRight}
 use Rattle.formula.specs.declared.node.Use.{Use}
 use Rattle.formula.proofs.node.fault.Statement.{statement}
 use Rattle.formula.proofs.node.fault.Tie as tie
@@ -42,12 +42,22 @@ wrong-a c = rw (kind-right (c .before .before .before), sym (a-is (c .before)) �
 wrong-b : tie.Need-returns-3
 wrong-b c =
     let second = c .before .before .before in
-    rw (kind-right (second .before .before .before), a-right second, sym (b-is (c .before)) ∙ not-true (c .before .is-right2 .result) (c .if3 .taken))
+    rw (
+      kind-right (second .before .before .before),
+      a-right second,
+      sym (b-is (c .before)) ∙ not-true (c .before .is-right2 .result)
+          (c .if3 .taken),
+    )
 
 right : tie.Need-returns-4
 right c =
     let second = c .before .before .before in
-    rw (kind-right (second .before .before .before), a-right second, sym (b-is (c .before)) ∙ not-false (c .before .is-right2 .result) (c .if3 .left))
+    rw (
+      kind-right (second .before .before .before),
+      a-right second,
+      sym (b-is (c .before)) ∙ not-false (c .before .is-right2 .result)
+          (c .if3 .left),
+    )
 
 pub fault-spec : {M : Type 1} → statement M
 fault-spec =

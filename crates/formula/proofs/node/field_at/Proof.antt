@@ -3,7 +3,7 @@
 use native.Mathlib.Omega.{arith}
 use borrow.Author.Needs.{needs}
 use Rattle.laws.proofs.Bytes.{Reading, reading-start, reading-fits, reading-more, reading-end}
-use Rattle.formula.specs.Limits.{fieldBytes}
+use Rattle.formula.specs.Tables.{fieldBytes}
 use Rattle.formula.proofs.node.field_at.Statement.{statement}
 use Rattle.formula.proofs.node.field_at.Tie as tie
 
@@ -25,14 +25,19 @@ more c =
     let at-loop = c .before .before .before in
     let a = at-loop .before .before .args in
     let loop = at-loop .loop in
-    omega (arith, reading-fits (a .table .now) (a .at) fieldBytes (loop .i) (loop .field) (c .wide .result) (loop .inv) (omega arith) (c .wide .ensures .1))
+    omega (
+      arith,
+      reading-fits (a .table .now) (a .at) fieldBytes (loop .i) (loop .field) (c .wide .result) (loop .inv) (omega arith)
+          (c .wide .ensures .1),
+    )
 
 again : tie.Need-loop-again Inv-loop μ-loop
 again c =
     let at-loop = c .before .before .before in
     let a = at-loop .before .before .args in
     let loop = at-loop .loop in
-    reading-more (a .table .now) (a .at) fieldBytes (loop .i) (loop .field) (c .wide .result) (loop .inv) (omega arith) (c .wide .ensures .1) (c .wide .ensures .0)
+    reading-more (a .table .now) (a .at) fieldBytes (loop .i) (loop .field) (c .wide .result) (loop .inv) (omega arith)
+    (c .wide .ensures .1) (c .wide .ensures .0)
 
 read : tie.Need-returns Inv-loop μ-loop
 read c =

@@ -2,7 +2,7 @@
 use mathlib.Core.Path.{ap, _∙_}
 use borrow.Author.Needs.{needs}
 use native.Mathlib.Omega.{arith}
-use Rattle.formula.specs.Nodes.{kindOf}
+use Rattle.formula.specs.Tables.{kindOf}
 use Rattle.formula.proofs.node.node_at.Statement.{statement}
 use Rattle.formula.proofs.node.node_at.Tie as tie
 

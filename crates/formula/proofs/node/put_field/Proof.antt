@@ -8,7 +8,7 @@ use lib.ListN.{length}
 use Rattle.laws.specs.Numbers.{little}
 use Rattle.laws.proofs.Bytes.{storing-byte}
 use Rattle.laws.proofs.Stored.{Storing, storing-start, storing-length, storing-end}
-use Rattle.formula.specs.Limits.{fieldBytes}
+use Rattle.formula.specs.Tables.{fieldBytes}
 use Rattle.formula.proofs.node.put_field.Statement.{statement}
 use Rattle.formula.proofs.node.put_field.Tie as tie
 

@@ -16,7 +16,13 @@ byte-wrong : tie.Need-returns-2
 byte-wrong c =
     let if1 = c .before .before in
     let start = if1 .before .before .before in
-    rw (← c .before .first-wrong .ensures, length-nodesOf (start .args .table .now), eq-eqb _ _ (if1 .if1 .left), lt-ltb _ _ (c .if2 .taken))
+    rw (
+      ← c .before .first-wrong .ensures,
+      length-nodesOf (start .args .table .now),
+      eq-eqb _ _ (if1 .if1 .left),
+      lt-ltb _ _
+          (c .if2 .taken),
+    )
 
 accepted : tie.Need-returns-3
 accepted c =

@@ -8,8 +8,8 @@ use borrow.Author.Tests.{not-true, not-false}
 use lib.ListN.{length}
 use Rattle.laws.specs.Lists.{first}
 use Rattle.laws.proofs.First.{Looking, looking-start, looking-more, looking-here, looking-end}
-use Rattle.formula.specs.Nodes.{nodeCount, nodesOf}
-use Rattle.formula.specs.Sets.{byteRight}
+use Rattle.formula.specs.Tables.{nodeCount, nodesOf}
+use Rattle.formula.specs.Checks.{byteRight}
 use Rattle.formula.proofs.Laws.Tables.{length-nodesOf}
 use Rattle.formula.proofs.set.first_wrong.Statement.{statement}
 use Rattle.formula.proofs.set.first_wrong.Tie as tie
@@ -32,12 +32,14 @@ count c = length-nodesOf (c .before .before .before .args .table .now)
 wrong : tie.Need-returns Inv-loop μ-loop
 wrong c =
     let loop = c .before .before .before in
-    looking-here _ _ (loop .loop .i) (loop .loop .inv) (omega (arith, count loop)) (sym (c .before .is-byte-right .ensures) ∙ not-true _ (c .if1 .taken))
+    looking-here _ _ (loop .loop .i) (loop .loop .inv) (omega (arith, count loop))
+    (sym (c .before .is-byte-right .ensures) ∙ not-true _ (c .if1 .taken))
 
 right : tie.Need-loop-again Inv-loop μ-loop
 right c =
     let loop = c .before .before .before in
-    looking-more _ _ (loop .loop .i) (loop .loop .inv) (omega (arith, count loop)) (sym (c .before .is-byte-right .ensures) ∙ not-false _ (c .if1 .left))
+    looking-more _ _ (loop .loop .i) (loop .loop .inv) (omega (arith, count loop))
+    (sym (c .before .is-byte-right .ensures) ∙ not-false _ (c .if1 .left))
 
 none : tie.Need-returns-2 Inv-loop μ-loop
 none c = looking-end _ _ (c .before .loop .i) (c .before .loop .inv) (omega (arith, count (c .before)))

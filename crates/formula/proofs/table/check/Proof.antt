@@ -34,7 +34,14 @@ record-wrong c =
     let found = c .before .before .before in
     let if2 = found .before in
     let if1 = if2 .before in
-    rw (← if1 .before .is-length-wrong .ensures, if1 .if1 .left, if2 .if2 .left, ← found .first-wrong .ensures, lt-ltb _ _ (c .before .before .if3 .taken))
+    rw (
+      ← if1 .before .is-length-wrong .ensures,
+      if1 .if1 .left,
+      if2 .if2 .left,
+      ← found .first-wrong .ensures,
+      lt-ltb _ _
+          (c .before .before .if3 .taken),
+    )
     (rw (c .fault .ensures, c .before .node-at .ensures))
 
 accepted : tie.Need-returns-4

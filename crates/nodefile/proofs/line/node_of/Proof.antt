@@ -6,9 +6,8 @@ use native.Mathlib.Omega.{arith}
 use borrow.Author.Needs.{needs}
 use Rattle.text.proofs.Laws.Fields.{number-whole}
 use Rattle.text.proofs.Laws.Pieces.{FieldIs, field-told}
-use Rattle.nodefile.specs.Lines.{tab, mostNumber, mostKind}
-use Rattle.nodefile.proofs.Laws.Nodes.{Left, left-start, left-next}
-use Rattle.nodefile.proofs.Laws.Nodes.{node-number, node-more, node-other, node-right}
+use Rattle.nodefile.specs.Files.{tab, mostNumber, mostKind}
+use Rattle.nodefile.proofs.Laws.Nodes.{Left, left-start, left-next, node-number, node-more, node-other, node-right}
 use Rattle.nodefile.proofs.line.node_of.Statement.{statement}
 use Rattle.nodefile.proofs.line.node_of.Tie as tie
 

@@ -3,7 +3,7 @@ use mathlib.Core.Path.{_≡_, sym, _∙_}
 use borrow.Author.Needs.{needs}
 use lib.ListN.{length, take}
 use lib.Seq.{length-take-le}
-use Rattle.nodefile.specs.Lines.{optionLine}
+use Rattle.nodefile.specs.Files.{optionLine}
 use Rattle.nodefile.proofs.Laws.Lines.{next-open, options-fail, options-are}
 use Rattle.nodefile.proofs.line.options_at.Statement.{statement}
 use Rattle.nodefile.proofs.line.options_at.Tie as tie

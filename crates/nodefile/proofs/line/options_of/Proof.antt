@@ -5,9 +5,9 @@ use borrow.Author.Needs.{needs}
 use borrow.Author.Tests.{not-true, not-false}
 use lib.ListN.{length, take}
 use lib.Seq.{length-take-le}
-use Rattle.text.specs.Decimals.{same}
+use Rattle.text.specs.Texts.{same}
 use Rattle.text.proofs.Laws.Pieces.{field-told}
-use Rattle.nodefile.specs.Lines.{tab, mostNumber, optionsWord}
+use Rattle.nodefile.specs.Files.{tab, mostNumber, optionsWord}
 use Rattle.nodefile.proofs.Laws.Options.{options-word, options-number, options-more, options-right}
 use Rattle.nodefile.proofs.line.options_of.Statement.{statement}
 use Rattle.nodefile.proofs.line.options_of.Tie as tie

@@ -1,53 +1,19 @@
 -- `program::refusal::put_refusal` meets its contract: the name and two fields, one behind the other. Assumes nothing.
 use mathlib.Core.Path.{_≡_, refl, sym, ap, _∙_}
 use mathlib.Core.List.{List, _++_}
-use Prim.Native.Nat.{ℕ, _+_, _≤_, _<_}
+use Prim.Native.Nat.{ℕ, _+_, _≤_}
 use native.Mathlib.Omega.{arith}
 use borrow.Author.Needs.{needs}
 use lib.ListN.{length, length-append}
-use Rattle.laws.specs.Caps.{cap}
-use Rattle.answer.specs.Numbers.{toldOf}
-use Rattle.answer.specs.Part.{mostShown}
+use Rattle.laws.specs.Numbers.{cap}
+use Rattle.laws.proofs.Stored.{room-right, stored-both}
+use Rattle.answer.specs.Answers.{mostShown}
 use Rattle.answer.specs.declared.Told.{Told}
-use Rattle.dimacs.specs.Written.{Wrote}
-use Rattle.dimacs.proofs.Laws.Writing.{room-left, room-right, wrote-both}
-use Rattle.program.specs.Printed.{refusedName, field, refusalLine}
-use Rattle.program.proofs.Laws.Lines.{shows-same, shows-wrote, wrote-as, field-short}
+use Rattle.program.specs.Printed.{refusedName, field}
+use Rattle.program.specs.Inner.Sizes.{PutShort}
+use Rattle.program.proofs.Laws.Shows.{shows-stored, shows-as}
 use Rattle.program.proofs.refusal.put_refusal.Statement.{statement}
 use Rattle.program.proofs.refusal.put_refusal.Tie as tie
-
--- the place behind the name
-module _ (p : tie.After-put-name) where
-  abbrev start : tie.Start
-  start = p .before .before .before .before
-
-  abbrev told : Told
-  told = p .before .before .tell .result
-
-  abbrev first : List ℕ
-  first = field (told .number) 9
-
-  abbrev second : List ℕ
-  second = field (cap mostShown (told .place)) 10
-
-  room : 0 + length (refusedName ++ (first ++ second)) ≤ length (start .args .out .now)
-  room = omega (arith, start .pre, length-append first second, field-short (told .number) 9 (omega (arith, p .before .before .tell .ok .1 .1 .0)), field-short (cap mostShown (told .place)) 10 (omega arith))
-
-  started : Wrote (start .args .out .now) 0 refusedName (p .put-name .last .0) 8
-  started = record { place = refl; list = p .put-name .ensures }
-
-  rest : 8 + length (first ++ second) ≤ length (p .put-name .last .0)
-  rest = room-right (start .args .out .now) 0 refusedName (first ++ second) room started
-
-first-fits : tie.Need-put-field-requires
-first-fits c κs = let p = c .before .before .before in room-left (p .put-name .last .0) 8 (first p) (second p) (rest p)
-
-second-fits : tie.Need-put-field-requires-2
-second-fits c κs =
-    let q = c .before .before .before .before in
-    let p = q .before .before .before .before in
-    let e = ap (λ (n : ℕ). length (field n 10)) (c .shown .ensures) in
-    omega (arith, e, room-right (p .put-name .last .0) 8 (first p) (second p) (rest p) (q .put-field .ensures))
 
 returns : tie.Need-returns
 returns c =
@@ -55,23 +21,31 @@ returns c =
     let shown = r .before in
     let q = shown .before .before .before .before in
     let p = q .before .before .before .before in
-    let s = start p in
-    let e = p .before .before .tell .ensures in
-    let last = ap (λ (n : ℕ). field n 10) (shown .shown .ensures) in
-    shows-same (refusalLine (s .args .answer)) (refusedName ++ (first p ++ second p)) _ _ _ _
-    (ap (λ (x : Told). refusedName ++ (field (x .number) 9 ++ field (cap mostShown (x .place)) 10)) (sym e)) refl
-    (shows-wrote _ _ _ _ (room p)
-    (wrote-both (s .args .out .now) 0 refusedName (first p ++ second p) (room p) (started p)
-    (wrote-both (p .put-name .last .0) 8 (first p) (second p) (rest p) (q .put-field .ensures) (wrote-as _ _ _ _ _ _ (sym last) (r .put-field2 .ensures)))))
+    let tell = p .before .before .before in
+    let start = tell .before .before in
+    let out : List ℕ = start .args .out .now in
+    let first = field (tell .tell .result .number) 9 in
+    let second = field (shown .shown .result) 10 in
+    let number = ap (λ (x : Told). x .number) (sym (tell .tell .ensures)) in
+    let place = ap (λ (x : Told). cap mostShown (x .place)) (sym (tell .tell .ensures)) ∙ sym (shown .shown .ensures) in
+    let head : PutShort first (p .put-bytes .last .0) (p .put-bytes .result) (q .put .result) (q .put .last .0) = q .put .ensures in
+    let tail : PutShort second (q .put .last .0) (q .put .result) (r .put2 .result) (r .put2 .last .0) = r .put2 .ensures in
+    let room : 0 + length (refusedName ++ (first ++ second)) ≤ length out =
+    omega (arith, start .pre, length-append first second, head .stored .place, head .short, tail .stored .place, tail .short) in
+    let rest = room-right refusedName (first ++ second) out 0 room (p .put-bytes .ensures) in
+    let both = stored-both first second (p .put-bytes .last .0) (p .put-bytes .result) rest (head .stored) (tail .stored) in
+    let all = stored-both refusedName (first ++ second) out 0 room (p .put-bytes .ensures) both in
+    shows-as (λ i. refusedName ++ (field (number i) 9 ++ field (place i) 10)) refl (shows-stored (omega (arith, room)) all)
 
 pub put-refusal-spec : {M : Type 1} → statement M
 put-refusal-spec =
     tie.close
     (tie.spec
     (λ c κs. search needs)
+    (λ c. search needs)
     (λ c κs. search needs)
-    first-fits
     (λ c κs. search needs)
-    second-fits
+    (λ c κs. search needs)
+    (λ c κs. search needs)
     (λ c. search needs)
     returns)

@@ -3,7 +3,7 @@ use mathlib.Core.Path.{_≡_, refl, sym, _∙_}
 use Prim.Native.Nat.{_-_}
 use native.Mathlib.Omega.{arith}
 use lib.ListN.{length, drop}
-use Rattle.text.specs.Decimals.{same}
+use Rattle.text.specs.Texts.{same}
 use Rattle.text.proofs.Laws.Same.{same-next, same-differs, same-longer, same-end}
 use Rattle.text.proofs.piece.is_same.Statement.{statement}
 use Rattle.text.proofs.piece.is_same.Tie as tie

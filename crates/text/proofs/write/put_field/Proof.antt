@@ -3,7 +3,7 @@ use mathlib.Core.List.{[], _∷_}
 use native.Mathlib.Omega.{arith}
 use borrow.Author.Needs.{needs}
 use Rattle.laws.proofs.Stored.{room-left, room-right, stored-both}
-use Rattle.text.specs.Decimals.{decimal}
+use Rattle.text.specs.Texts.{decimal}
 use Rattle.text.proofs.write.put_field.Statement.{statement}
 use Rattle.text.proofs.write.put_field.Tie as tie
 

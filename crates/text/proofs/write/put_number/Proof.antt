@@ -4,7 +4,7 @@ use Prim.Native.Nat.{_+_, _/_, _<_}
 use native.Mathlib.Omega.{arith}
 use borrow.Author.Needs.{needs}
 use lib.ListN.{length, length-set}
-use Rattle.text.specs.Decimals.{decimal}
+use Rattle.text.specs.Texts.{decimal}
 use Rattle.text.proofs.Laws.Backward.{Backward, backward-start, backward-length, backward-room, backward-more, backward-end}
 use Rattle.text.proofs.Laws.Decimals.{decimal-some, length-last}
 use Rattle.text.proofs.write.put_number.Statement.{statement}

@@ -2,13 +2,13 @@
 use mathlib.Core.Path.{sym, ap, _∙_}
 use mathlib.Core.Bool.{false}
 use borrow.Author.Needs.{needs}
-use Rattle.answer.specs.Numbers.{after}
+use Rattle.answer.specs.Answers.{after}
 use Rattle.answer.specs.declared.Answer.the-variants.{Accepted}
 use Rattle.answer.proofs.Laws.Order.{tested, refused-first, accepted-first}
-use Rattle.formula.specs.Nodes.{nodesOf}
-use Rattle.formula.specs.Sets.{setChecked}
+use Rattle.formula.specs.Tables.{nodesOf}
+use Rattle.formula.specs.Checks.{setChecked}
 use Rattle.formula.proofs.Laws.WellFormed.{length-right}
-use Rattle.clausal.specs.Renamings.{renaming}
+use Rattle.clausal.specs.Clauses.{renaming}
 use Rattle.clausal.specs.Totals.{Size}
 use Rattle.clausal.proofs.Options.{totals-options}
 use Rattle.totals.proofs.measure.measure.Statement.{statement}
@@ -23,7 +23,8 @@ right-length : tie.Need-measure-under-requires
 right-length c κs =
     let check = c .before .before in
     let start = check .before .before .before in
-    length-right (start .args .table .now) (start .args .options) (tested _ _ _ (check .check .ensures) (c .before .is-refusal .ensures) false (c .if1 .left))
+    length-right (start .args .table .now) (start .args .options)
+    (tested _ _ _ (check .check .ensures) (c .before .is-refusal .ensures) false (c .if1 .left))
 
 -- no total depends on what is taken
 measured : tie.Need-returns-2
@@ -35,7 +36,8 @@ measured c =
     let ns = nodesOf (start .args .table .now) in
     accepted-first _ _ _ (check .check .ensures) (if1 .before .is-refusal .ensures) _ _ (if1 .if1 .left)
     (c .measure-under .ensures
-    ∙ ap (λ (x : Size). after (setChecked ns s) (Accepted (x .clauses) (x .literals))) (totals-options (renaming 0 s) (start .args .options) ns))
+    ∙ ap (λ (x : Size). after (setChecked ns s) (Accepted (x .clauses) (x .literals)))
+    (totals-options (renaming 0 s) (start .args .options) ns))
 
 pub measure-spec : {M : Type 1} → statement M
 measure-spec =

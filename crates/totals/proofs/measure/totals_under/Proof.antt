@@ -1,7 +1,7 @@
 -- `totals::measure::totals_under` meets its contract: the arrays begin as zeros. Assumes nothing.
 use native.Mathlib.Omega.{arith}
 use borrow.Author.Needs.{needs}
-use Rattle.formula.specs.Nodes.{nodesOf}
+use Rattle.formula.specs.Tables.{nodesOf}
 use Rattle.totals.proofs.Laws.Columns.{ready-start}
 use Rattle.totals.proofs.measure.totals_under.Statement.{statement}
 use Rattle.totals.proofs.measure.totals_under.Tie as tie

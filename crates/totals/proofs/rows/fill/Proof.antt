@@ -4,8 +4,7 @@ use mathlib.Core.Path.{_≡_, sym, ap, _∙_, subst}
 use Prim.Native.Nat.{ℕ, _≤_, _<_, _-_}
 use native.Mathlib.Omega.{arith}
 use lib.ListN.{length}
-use Rattle.formula.specs.Limits.{mostNodes}
-use Rattle.formula.specs.Nodes.{nodeAt, nodeCount, nodesOf}
+use Rattle.formula.specs.Tables.{mostNodes, nodeAt, nodeCount, nodesOf}
 use Rattle.formula.proofs.Laws.Tables.{length-nodesOf, nodeIn-nodesOf}
 use Rattle.totals.specs.Inner.Columns.{Ready}
 use Rattle.totals.specs.Inner.Sized.{asRow}
@@ -45,7 +44,8 @@ returns c =
     let loop = c .before in
     let args = loop .before .before .before .args in
     let e : loop .loop .i ≡ nodeCount (args .table .now) = omega arith in
-    subst (λ (i : ℕ). Ready (args .set .now) (nodesOf (args .table .now)) i (loop .loop .clauses) (loop .loop .literals)) e (loop .loop .inv .1)
+    subst (λ (i : ℕ). Ready (args .set .now) (nodesOf (args .table .now)) i (loop .loop .clauses) (loop .loop .literals)) e
+    (loop .loop .inv .1)
 
 pub fill-spec : {M : Type 1} → statement M
 fill-spec =

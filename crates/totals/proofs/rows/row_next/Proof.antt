@@ -2,7 +2,7 @@
 use mathlib.Core.Path.{ap, _∙_}
 use borrow.Author.Needs.{needs}
 use Rattle.formula.specs.declared.node.Node.{Node}
-use Rattle.clausal.specs.Algebra.{rowBy}
+use Rattle.clausal.specs.Clauses.{rowBy}
 use Rattle.clausal.specs.Totals.{capped}
 use Rattle.totals.specs.Inner.Columns.{rowNext}
 use Rattle.totals.specs.Inner.Sized.{rowed, asRow}

@@ -5,7 +5,7 @@ use Prim.Native.Nat.{ℕ, _+_}
 use native.Mathlib.Omega.{arith}
 use lib.ListN.{set}
 use borrow.Author.Needs.{needs}
-use Rattle.formula.specs.Nodes.{nodesOf}
+use Rattle.formula.specs.Tables.{nodesOf}
 use Rattle.formula.proofs.Laws.Tables.{length-nodesOf}
 use Rattle.totals.specs.Inner.Columns.{Ready}
 use Rattle.totals.specs.declared.total.Total.{Total}
@@ -21,7 +21,8 @@ up-to-it c κs =
     record {
       most = start .pre .marked .size .most;
       within = omega (arith, start .pre .inside);
-      ready = ready-trial (nodesOf (a .table .now)) (start .pre .below) (a .set .now) (a .i) (a .byte) _ _ (a .i + 1) (omega arith) (start .pre .ready);
+      ready = ready-trial (nodesOf (a .table .now)) (start .pre .below) (a .set .now) (a .i) (a .byte) _ _ (a .i + 1) (omega arith)
+          (start .pre .ready);
     }
 
 tried : tie.Need-returns
@@ -36,7 +37,8 @@ tried c =
     record {
       in-set = refl;
       total = ap (λ (x : Total). x .clauses .n) (whole .whole .ensures);
-      ready = subst (λ (k : ℕ). Ready s (nodesOf t) k (fill .fill .last .1 .1 .1 .0) (fill .fill .last .1 .1 .1 .1 .0)) (sym (length-nodesOf t)) (fill .fill .ensures);
+      ready = subst (λ (k : ℕ). Ready s (nodesOf t) k (fill .fill .last .1 .1 .1 .0) (fill .fill .last .1 .1 .1 .1 .0))
+          (sym (length-nodesOf t)) (fill .fill .ensures);
     }
 
 pub trial-spec : {M : Type 1} → statement M

@@ -6,13 +6,11 @@ use native.Mathlib.Omega.{arith}
 use lib.ListN.{length}
 use Rattle.formula.specs.Inner.Held.{heldAt}
 use Rattle.formula.specs.Marks.{marksOf}
-use Rattle.formula.specs.Nodes.{nodeCount, nodesOf}
-use Rattle.formula.specs.Sets.{renamed}
+use Rattle.formula.specs.Tables.{nodeCount, nodesOf}
+use Rattle.formula.specs.Checks.{renamed}
 use Rattle.formula.proofs.Laws.Held.{heldAt-held}
 use Rattle.formula.proofs.Laws.Tables.{length-nodesOf}
-use Rattle.clausal.specs.Algebra.{Row}
-use Rattle.clausal.specs.Renamings.{renaming, nameOf}
-use Rattle.clausal.specs.Rows.{rowOf}
+use Rattle.clausal.specs.Clauses.{Row, renaming, nameOf, rowOf}
 use Rattle.clausal.specs.Totals.{Size, capped}
 use Rattle.totals.specs.Inner.Sized.{sized, asTotal, rowed}
 use Rattle.totals.specs.Inner.Sums.{withNode}

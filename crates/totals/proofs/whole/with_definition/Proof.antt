@@ -24,7 +24,8 @@ returns c =
     ap sized (up .join2 .ensures) ∙ ap (λ (u : Total). capped .join (sized (row .n)) (sized u)) (up .before .unit2 .ensures) in
     let both : Halves → Size → Size → Size = λ h d p. withPart capped (h .up) p (withPart capped (h .down) d sum) in
     c .with-part2 .ensures
-    ∙ ap (λ (x : Total). asTotal (withPart capped (halves .halves-of .result .up) (sized (up .join2 .result)) (sized x))) (with-down .with-part .ensures)
+    ∙ ap (λ (x : Total). asTotal (withPart capped (halves .halves-of .result .up) (sized (up .join2 .result)) (sized x)))
+    (with-down .with-part .ensures)
     ∙ (λ i. asTotal (both (halves .halves-of .ensures i) (down-part i) (up-part i)))
 
 pub with-definition-spec : {M : Type 1} → statement M

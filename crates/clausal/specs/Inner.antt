@@ -1,0 +1,3 @@
+-- What only laws and inner contracts cite.
+pub mod Extended
+pub mod Places

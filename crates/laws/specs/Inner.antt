@@ -1,0 +1,2 @@
+-- What only laws and inner contracts cite.
+pub mod Stores
