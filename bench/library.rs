@@ -39,6 +39,18 @@ mod entry {
             answer: *mut u8,
             answer_len: usize,
         ) -> u32;
+        pub fn simbolufa_convert_after(
+            table: *const u8,
+            table_len: usize,
+            options: u32,
+            taken: u32,
+            set: *const u8,
+            set_len: usize,
+            out: *mut u8,
+            out_len: usize,
+            answer: *mut u8,
+            answer_len: usize,
+        ) -> u32;
         pub fn simbolufa_write_dimacs(
             clauses: *const u8,
             clauses_len: usize,
@@ -116,6 +128,30 @@ pub fn convert(table: &[u8], options: u32, set: &[u8], out: &mut [u8]) -> [u32; 
             table.as_ptr(),
             table.len(),
             options,
+            set.as_ptr(),
+            set.len(),
+            out.as_mut_ptr(),
+            out.len(),
+            answer,
+            answer_len,
+        )
+    })
+}
+
+/// Variables and clauses.
+pub fn convert_after(
+    table: &[u8],
+    options: u32,
+    taken: u32,
+    set: &[u8],
+    out: &mut [u8],
+) -> [u32; 2] {
+    accepted(|answer, answer_len| unsafe {
+        entry::simbolufa_convert_after(
+            table.as_ptr(),
+            table.len(),
+            options,
+            taken,
             set.as_ptr(),
             set.len(),
             out.as_mut_ptr(),

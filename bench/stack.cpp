@@ -17,6 +17,7 @@ namespace {
 constexpr size_t stack_size = size_t(16) << 20;
 constexpr uint8_t paint = 0xa5;
 constexpr size_t most_nodes = 1024;
+constexpr uint8_t symbol = 2;
 
 struct Run {
     const std::function<uint32_t()> &call;
@@ -70,35 +71,45 @@ void push(Bytes &table, uint8_t kind, size_t a, size_t b)
 enum class Nested { only, left, right };
 
 // Nodes of one kind, each over the node before it, the lowest over a symbol. Where they have two children, the other
-// one is node 0: the symbol or, in its place, true.
+// one is node 0: the symbol or, before it, a constant. A not may be the root above them.
 struct Chain {
     std::string name;
     uint8_t kind;
     Nested nested;
-    bool with_true;
+    uint8_t other = symbol;
+    bool below_not = false;
 };
 
 const std::vector<Chain> chains = {
-    {"nots", 3, Nested::only, false},
-    {"ands, left-nested, with a symbol", 4, Nested::left, false},
-    {"ands, right-nested, with a symbol", 4, Nested::right, false},
-    {"ors, left-nested, with a symbol", 5, Nested::left, false},
-    {"ors, right-nested, with a symbol", 5, Nested::right, false},
-    {"implications to a symbol", 6, Nested::left, false},
-    {"implications from a symbol", 6, Nested::right, false},
-    {"equivalences, left-nested, with true", 7, Nested::left, true},
-    {"equivalences, right-nested, with true", 7, Nested::right, true},
+    {"nots", 3, Nested::only},
+    {"ands, left-nested, with a symbol", 4, Nested::left},
+    {"ands, right-nested, with a symbol", 4, Nested::right},
+    {"ands below a not, left-nested", 4, Nested::left, symbol, true},
+    {"ands below a not, right-nested", 4, Nested::right, symbol, true},
+    {"ors, left-nested, with a symbol", 5, Nested::left},
+    {"ors, right-nested, with a symbol", 5, Nested::right},
+    {"ors, left-nested, with false", 5, Nested::left, 0},
+    {"implications to a symbol", 6, Nested::left},
+    {"implications from a symbol", 6, Nested::right},
+    {"equivalences, left-nested, with true", 7, Nested::left, 1},
+    {"equivalences, right-nested, with true", 7, Nested::right, 1},
+    {"equivalences, left-nested, with false", 7, Nested::left, 0},
+    {"equivalences, right-nested, with false", 7, Nested::right, 0},
 };
 
-// A table of so many nodes. All are nested in each other, but for node 0 where it is true.
+// A table of so many nodes. All are nested in each other, but for node 0 where it is a constant.
 Bytes table_of(const Chain &chain, size_t count)
 {
     Bytes table;
-    if (chain.with_true)
-        push(table, 1, 0, 0);
-    push(table, 2, 1, 0);
+    if (chain.other != symbol)
+        push(table, chain.other, 0, 0);
+    push(table, symbol, 1, 0);
     while (table.size() < 5 * count) {
         size_t before = table.size() / 5 - 1;
+        if (chain.below_not && before + 2 == count) {
+            push(table, 3, before, 0);
+            break;
+        }
         bool right = chain.nested == Nested::right;
         push(table, chain.kind, right ? 0 : before, right ? before : 0);
     }
@@ -131,6 +142,12 @@ uint32_t convert(const Bytes &table)
                              out.size(), answer.data(), answer.size());
 }
 
+uint32_t convert_after(const Bytes &table)
+{
+    return simbolufa_convert_after(table.data(), table.size(), 1, 9, empty_set.data(), table.size() / 5, out.data(),
+                                   out.size(), answer.data(), answer.size());
+}
+
 size_t measured_with(uint32_t (*entry)(const Bytes &), const Bytes &table)
 {
     return measured([&] { return entry(table); });
@@ -142,20 +159,21 @@ int main()
 {
     constexpr size_t half = most_nodes / 2;
     std::printf("the stack below the caller, in bytes; nothing called: %zu\n", measured([] { return 0; }));
-    std::printf("  %-38s  check  measure  choose  convert  convert  convert,\n", "tables of nested nodes");
-    std::printf("  %-38s  %5zu  %7zu  %6zu  %7zu  %7zu  a node more\n", "", most_nodes, most_nodes, most_nodes, half,
-                most_nodes);
+    std::printf("  %-38s  check  measure  choose  convert  convert  convert,     convert_after\n", "tables of nested nodes");
+    std::printf("  %-38s  %5zu  %7zu  %6zu  %7zu  %7zu  a node more  %13zu\n", "", most_nodes, most_nodes, most_nodes, half,
+                most_nodes, most_nodes);
     for (const Chain &chain : chains) {
         Bytes less = table_of(chain, half), more = table_of(chain, most_nodes);
         size_t shallow = measured_with(convert, less), deep = measured_with(convert, more);
-        std::printf("  %-38s  %5zu  %7zu  %6zu  %7zu  %7zu  %8.1f\n", chain.name.c_str(), measured_with(check, more),
+        std::printf("  %-38s  %5zu  %7zu  %6zu  %7zu  %7zu  %11.1f  %13zu\n", chain.name.c_str(), measured_with(check, more),
                     measured_with(measure, more), measured_with(choose, more), shallow, deep,
-                    (double(deep) - double(shallow)) / half);
+                    (double(deep) - double(shallow)) / half, measured_with(convert_after, more));
     }
     Bytes leaf;
     push(leaf, 2, 1, 0);
-    std::printf("  %-38s  %5zu  %7zu  %6zu  %7zu\n", "one symbol", measured_with(check, leaf),
-                measured_with(measure, leaf), measured_with(choose, leaf), measured_with(convert, leaf));
+    std::printf("  %-38s  %5zu  %7zu  %6zu  %7zu  %7s  %11s  %13zu\n", "one symbol", measured_with(check, leaf),
+                measured_with(measure, leaf), measured_with(choose, leaf), measured_with(convert, leaf), "", "",
+                measured_with(convert_after, leaf));
 
     // A clause of the literals -1 and 40,000, over and over.
     constexpr size_t clause_count = 10000;

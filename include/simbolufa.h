@@ -27,9 +27,9 @@
  *   node number. A helper stands for its node in the clauses of the node's parents, and more clauses
  *   define it.
  *
- *   To solve two guards together, convert the second with V set to the variables that the first one
- *   reported. Then no helper of one is a symbol or a helper of the other. Where those variables are
- *   over 32,000, the most options, the second call is refusal 2.
+ *   simbolufa_convert gives every guard the helpers from V + 1 on. So guards that are solved together are
+ *   converted one after the other by simbolufa_convert_after, each with the variables that the call before
+ *   reported. Then each variable is an option of the project, or the helper of one node of one guard.
  *
  * Totals
  *
@@ -61,9 +61,9 @@
  *   A null pointer with length 0 is fine, and so is any alignment. No pointer is kept after the call.
  *   A call allocates nothing, keeps no state and always ends. It may run in several threads at once.
  *
- *   Deepest stack, measured on x86-64: check, write_dimacs and read_dimacs less than 1 KiB, choose 11 KiB,
- *   measure 34 KiB, convert 58 KiB. For deep tables convert takes more, up to 93,272 bytes for 1,024
- *   nested nodes. A stack of 128 KiB is enough for every entry.
+ *   Deepest stack, measured on x86-64: check, write_dimacs and read_dimacs less than 1 KiB, measure and
+ *   choose 14 KiB, convert and convert_after 18 KiB. For deep tables these two take more, up to 148,840
+ *   bytes for 1,024 nested nodes. A stack of 160 KiB is enough for every entry.
  *
  *   A call checks its own input. It returns 0 or the number of a refusal. A refusal changes no lent
  *   byte outside the answer part.
@@ -103,7 +103,7 @@ enum simbolufa_number {
     SIMBOLUFA_ACCEPTED = 0,
     /* The table is empty, is not a multiple of 5 bytes, or is over 5,120 bytes. */
     SIMBOLUFA_REFUSED_TABLE_LENGTH = 1,
-    /* V is over 32,000. */
+    /* V is over 32,000. Or, looked at after refusal 3, what is taken is below V or over 32,000. */
     SIMBOLUFA_REFUSED_OPTIONS = 2,
     /* A node's record breaks the rules of the node table. Place: the lowest such node. */
     SIMBOLUFA_REFUSED_RECORD = 3,
@@ -189,6 +189,20 @@ uint32_t simbolufa_choose(const uint8_t *table, size_t table_len, uint32_t optio
 uint32_t simbolufa_convert(const uint8_t *table, size_t table_len, uint32_t options, const uint8_t *set,
                            size_t set_len, uint8_t *out, size_t out_len, uint8_t *answer,
                            size_t answer_len);
+
+/*
+ * Converts a guard that is solved together with others. `options` is V, and the table is checked by it: a
+ * helper of another guard is no symbol. `taken` is the highest variable in use: V for the first guard, then
+ * the variables that the call before reported. Helpers are taken + 1, taken + 2, .. . With taken equal to V
+ * it is simbolufa_convert.
+ *
+ * Returns what simbolufa_convert returns. After the checks of the table it is 2 also where `taken` is
+ * below V or over 32,000. The values of the answer part are the variables (`taken` and the number of
+ * helpers) and the clauses.
+ */
+uint32_t simbolufa_convert_after(const uint8_t *table, size_t table_len, uint32_t options, uint32_t taken,
+                                 const uint8_t *set, size_t set_len, uint8_t *out, size_t out_len,
+                                 uint8_t *answer, size_t answer_len);
 
 /*
  * Writes clause bytes as DIMACS text. `variables` is the variable count that the header declares.

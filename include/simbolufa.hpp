@@ -2,8 +2,8 @@
  * Simbolufa for C++17: the entries of simbolufa.h with views in place of pointers, and one answer.
  *
  * simbolufa.h says what each call does, what it refuses and how much stack it takes. Nothing here
- * allocates, throws or keeps state. The answer part is on the stack of the call, so refusal 11 does not
- * occur, and it overlaps no buffer of the caller.
+ * allocates or throws, and only `together` keeps state. The answer part is on the stack of the call, so
+ * refusal 11 does not occur, and it overlaps no buffer of the caller.
  *
  * A guard from table to DIMACS text:
  *
@@ -22,10 +22,8 @@
  *       told = simbolufa::write_dimacs(clauses, told.first, text);
  *   }
  *
- * Two guards that are solved together: convert the second with its option count V set to the variables
- * that the first one reported, `first` in the answer of convert. Then no helper of one is an option or a
- * helper of the other. Where those variables are over 32,000, the most options, the second call is
- * refusal 2.
+ * Guards that are solved together, such as those of a branch inside a branch, are converted by one object
+ * of the class `together`. Then their clauses share the project's options and nothing else.
  */
 #ifndef SIMBOLUFA_HPP
 #define SIMBOLUFA_HPP
@@ -87,9 +85,7 @@ using writable = std::enable_if_t<std::is_pointer_v<pointer_of<Container>> && is
 
 } // namespace detail
 
-/*
- * Bytes that a call reads: uint8_t, char, char8_t or std::byte. They are the caller's, and must outlive the view.
- */
+/* Bytes that a call reads: uint8_t, char, char8_t or std::byte. They are the caller's, and must outlive the view. */
 struct bytes {
     const std::uint8_t *data = nullptr;
     std::size_t size = 0;
@@ -115,10 +111,7 @@ struct bytes {
     }
 };
 
-/*
- * Bytes that a call writes, and that a later call may read, of the same types. They are the caller's, and must outlive the
- * view.
- */
+/* Bytes that a call writes, and that a later call may read, of the same types and for as long. */
 struct room {
     std::uint8_t *data = nullptr;
     std::size_t size = 0;
@@ -231,8 +224,39 @@ inline answer convert(bytes table, std::uint32_t options, bytes set, room clause
     });
 }
 
+/* Converts a guard that is solved together with others, after the variables taken. Values: variables, clauses. */
+inline answer convert_after(bytes table, std::uint32_t options, std::uint32_t taken, bytes set, room clauses) noexcept
+{
+    return detail::told([=](std::uint8_t *part, std::size_t length) {
+        simbolufa_convert_after(table.data, table.size, options, taken, set.data, set.size, clauses.data, clauses.size,
+                                part, length);
+    });
+}
+
+/* Guards of one project that are solved together. Each is converted after the variables of those before it. */
+class together {
+public:
+    constexpr explicit together(std::uint32_t options) noexcept : project(options), taken(options) {}
+
+    /* Converts the next guard. Values: variables so far, clauses of this guard. A refused guard takes no variable. */
+    answer convert(bytes table, bytes set, room clauses) noexcept
+    {
+        const answer told = convert_after(table, project, taken, set, clauses);
+        if (told)
+            taken = told.first;
+        return told;
+    }
+
+    /* The variables so far: the options, and the helpers of all guards. */
+    [[nodiscard]] constexpr std::uint32_t variables() const noexcept { return taken; }
+
+private:
+    std::uint32_t project;
+    std::uint32_t taken;
+};
+
 /*
- * Tells how many bytes convert needs for the same table, options and set.
+ * Tells how many bytes convert and convert_after need for a table, options and a set.
  *
  * Where convert would refuse whatever the room is, the answer is that refusal, 1 to 6, with its place,
  * and `needed` is 0. Else the values are those of measure, and `needed` bytes are exactly enough.

@@ -274,6 +274,21 @@ uint32_t convert(Request &request)
 }
 #endif
 
+#ifdef SIMBOLUFA_HAS_CONVERT_AFTER
+uint32_t convert_after(Request &request)
+{
+    uint32_t options = request.number();
+    uint32_t taken = request.number();
+    Lent &table = request.input();
+    Lent &set = request.input();
+    Lent &out = request.output();
+    Lent &answer = request.answer_part();
+    request.end();
+    return simbolufa_convert_after(table.data(), table.size(), options, taken, set.data(), set.size(),
+                                   out.data(), out.size(), answer.data(), answer.size());
+}
+#endif
+
 #ifdef SIMBOLUFA_HAS_WRITE_DIMACS
 uint32_t write_dimacs(Request &request)
 {
@@ -309,6 +324,9 @@ const std::map<std::string, uint32_t (*)(Request &)> operations = {
 #endif
 #ifdef SIMBOLUFA_HAS_CONVERT
     {"convert", convert},
+#endif
+#ifdef SIMBOLUFA_HAS_CONVERT_AFTER
+    {"convert_after", convert_after},
 #endif
 #ifdef SIMBOLUFA_HAS_WRITE_DIMACS
     {"write_dimacs", write_dimacs},

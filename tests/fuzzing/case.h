@@ -23,6 +23,8 @@ public:
     // Small, unless a flag asks for any.
     uint32_t number() const { return head[1] & 8 ? word(2) : word(2) % 32; }
     uint32_t allowance() const { return head[1] & 16 ? word(6) : word(6) % 8; }
+    // A little above the options, unless the same flag asks for any.
+    uint32_t taken() const { return head[1] & 16 ? word(6) : number() + word(6) % 64; }
 
     Bytes first() const { return Bytes(lent.begin(), lent.begin() + split()); }
     Bytes second() const { return Bytes(lent.begin() + split(), lent.end()); }

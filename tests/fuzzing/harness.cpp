@@ -7,12 +7,14 @@
 #include "call.h"
 #include "tame.h"
 
+#include <optional>
+
 using namespace fuzzing;
 
 namespace {
 
 constexpr uint32_t clause_ceiling = 65535, literal_ceiling = 1000000;
-constexpr uint32_t most_clauses = 65534, most_literals = 999999;
+constexpr uint32_t most_clauses = 65534, most_literals = 999999, most_options = 32000;
 // Conversions of more steps are asked with a short buffer, and longer tables are not asked of the reference.
 constexpr uint64_t most_steps = 20000000;
 constexpr size_t longest_asked_table = 512, longest_asked_output = 100000;
@@ -97,23 +99,47 @@ Bytes choose(const Case &from, const Formula &formula, size_t set_length, size_t
     return chosen;
 }
 
-// Converts, and gives the clause bytes where there are any. `variables` gets the variables.
-Bytes convert(const Case &from, const Formula &formula, size_t answer_length, uint32_t &variables)
+// What is taken before a guard. Nothing is said of it in convert.
+using Taken = std::optional<uint32_t>;
+
+// Whether each variable of a conversion is an option or one of its own helpers, and these come after what is taken.
+bool keeps_names(const Bytes &clauses, uint32_t options, uint32_t taken, uint32_t last)
 {
+    for (size_t at = 0; at < clauses.size(); at += 4) {
+        int64_t number = static_cast<int32_t>(number_at(clauses, at));
+        uint64_t variable = std::abs(number);
+        if (variable > options && (variable <= taken || variable > last))
+            return false;
+    }
+    return true;
+}
+
+// Converts, and gives the clause bytes where there are any. `variables` gets the variables.
+Bytes convert(const Case &from, const Formula &formula, Taken after, size_t answer_length, uint32_t &variables)
+{
+    uint32_t taken = after.value_or(formula.options);
     Said totals = measure(from, formula, SIMBOLUFA_ANSWER_LENGTH);
     uint64_t needed = 4 * (uint64_t(totals.first) + totals.second);
     bool is_short = (uint64_t(totals.first) + totals.second) * formula.nodes() > most_steps;
     bool below = totals.first < clause_ceiling && totals.second < literal_ceiling;
-    Call call(from, "convert");
+    Call call(from, after ? "convert_after" : "convert");
     call.number(formula.options);
+    if (after)
+        call.number(taken);
     Lent &table = call.input(formula.table);
     Lent &set = call.input(formula.set);
     Lent &out = call.output(is_short || !below ? 8 : from.room(needed));
     Lent &answer = call.answer_part(answer_length);
-    uint32_t result = simbolufa_convert(table.data(), table.size(), formula.options, set.data(), set.size(),
-                                        out.data(), out.size(), answer.data(), answer.size());
+    uint32_t result = after ? simbolufa_convert_after(table.data(), table.size(), formula.options, taken, set.data(),
+                                                      set.size(), out.data(), out.size(), answer.data(), answer.size())
+                            : simbolufa_convert(table.data(), table.size(), formula.options, set.data(), set.size(),
+                                                out.data(), out.size(), answer.data(), answer.size());
     Said said = call.made(result, needed);
+    bool is_table_right = totals.number == 0 || totals.number == 4;
     uint32_t expected = answer.size() != SIMBOLUFA_ANSWER_LENGTH   ? 11
+                        : !is_table_right                          ? totals.number
+                        : taken < formula.options                  ? 2
+                        : taken > most_options                     ? 2
                         : totals.number != 0                       ? totals.number
                         : totals.first == clause_ceiling           ? 5
                         : totals.second == literal_ceiling         ? 6
@@ -131,7 +157,8 @@ Bytes convert(const Case &from, const Formula &formula, size_t answer_length, ui
         zeros += number_at(clauses, at) == 0;
     must(zeros == totals.first && said.second == zeros, "convert: another clause total than that of the clauses");
     uint32_t helpers = std::count(formula.set.begin(), formula.set.end(), 1);
-    must(said.first == formula.options + helpers, "convert: other variables");
+    must(said.first == taken + helpers, "convert: other variables");
+    must(keeps_names(clauses, formula.options, taken, said.first), "convert: a variable that is somebody else's");
     variables = said.first;
     return clauses;
 }
@@ -239,13 +266,16 @@ void write_any(const Case &from)
     write_dimacs(from, clauses, from.number(), from.answer_length());
 }
 
-// Chooses, converts under the chosen set, and writes the clauses.
+// Chooses, converts under the chosen set, converts once more after that, and writes the clauses.
 void whole(const Case &from)
 {
     Formula formula = formula_of(from);
     formula.set = choose(from, formula, formula.nodes(), SIMBOLUFA_ANSWER_LENGTH);
     uint32_t variables = 0;
-    Bytes clauses = convert(from, formula, SIMBOLUFA_ANSWER_LENGTH, variables);
+    Bytes clauses = convert(from, formula, {}, SIMBOLUFA_ANSWER_LENGTH, variables);
+    uint32_t more = variables;
+    if (variables > 0)
+        convert(from, formula, variables, SIMBOLUFA_ANSWER_LENGTH, more);
     if (!clauses.empty() && clauses.size() <= longest_asked_output)
         write_dimacs(from, clauses, variables, SIMBOLUFA_ANSWER_LENGTH);
 }
@@ -256,7 +286,7 @@ extern "C" int LLVMFuzzerTestOneInput(const uint8_t *data, size_t size)
 {
     Case from(data, size);
     uint32_t variables = 0;
-    switch (from.entry() % 7) {
+    switch (from.entry() % 8) {
     case 0:
         check(from, formula_of(from));
         break;
@@ -269,13 +299,16 @@ extern "C" int LLVMFuzzerTestOneInput(const uint8_t *data, size_t size)
         break;
     }
     case 3:
-        convert(from, formula_of(from), from.answer_length(), variables);
+        convert(from, formula_of(from), {}, from.answer_length(), variables);
         break;
     case 4:
         write_any(from);
         break;
     case 5:
         read_any(from);
+        break;
+    case 6:
+        convert(from, formula_of(from), from.taken(), from.answer_length(), variables);
         break;
     default:
         whole(from);

@@ -98,6 +98,8 @@ Told ask(const Guard &guard, uint32_t allowance)
     told.add(simbolufa::choose(guard.table, options, allowance, set), set);
     told.add(simbolufa::convert(guard.table, options, guard.set, clauses), clauses);
     told.add(simbolufa::convert(guard.table, options, guard.set, {}));
+    told.add(simbolufa::convert_after(guard.table, options, options + 900, guard.set, clauses), clauses);
+    told.add(simbolufa::convert_after(guard.table, options, options - 1, guard.set, clauses));
     told.add(simbolufa::write_dimacs(guard.clauses, 2000, text), text);
     told.add(simbolufa::write_dimacs(guard.clauses, 1, text));
     told.add(simbolufa::read_dimacs(guard.text, clauses), clauses);

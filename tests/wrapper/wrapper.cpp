@@ -70,7 +70,9 @@ static_assert(!std::is_constructible_v<simbolufa::room, std::span<int>>);
 static_assert(noexcept(simbolufa::check({}, 0)) && noexcept(simbolufa::measure({}, 0, {})));
 static_assert(noexcept(simbolufa::choose({}, 0, 0, {})) && noexcept(simbolufa::convert({}, 0, {}, {})));
 static_assert(noexcept(simbolufa::write_dimacs({}, 0, {})) && noexcept(simbolufa::read_dimacs({}, {})));
-static_assert(noexcept(simbolufa::text_bytes({}, 0)));
+static_assert(noexcept(simbolufa::text_bytes({}, 0)) && noexcept(simbolufa::convert_after({}, 0, 0, {}, {})));
+static_assert(noexcept(simbolufa::together(0).convert({}, {}, {})) && simbolufa::together(7).variables() == 7);
+static_assert(!std::is_convertible_v<uint32_t, simbolufa::together>);
 static_assert(std::is_trivially_copyable_v<simbolufa::answer>);
 // An answer is asked, and is no number.
 static_assert(std::is_constructible_v<bool, simbolufa::answer> && !std::is_convertible_v<simbolufa::answer, bool>);
@@ -310,17 +312,53 @@ std::vector<int32_t> helpers_of(const Bytes &clauses, int32_t options)
     return helpers;
 }
 
-void check_two_guards()
+void check_convert_after()
 {
+    Bytes plain(88);
+    Bytes after(88);
+    expect("convert", is(simbolufa::convert(table, 2, renamed, plain), 0, 0, 3, 6));
+    expect("nothing is taken but the options", is(simbolufa::convert_after(table, 2, 2, renamed, after), 0, 0, 3, 6));
+    expect("the same bytes", after == plain);
+    expect("more is taken", is(simbolufa::convert_after(table, 2, 7, renamed, after), 0, 0, 8, 6));
+    expect("its helper", helpers_of(after, 2) == std::vector<int32_t>{8} && after != plain);
+    size_t needed = 0;
+    expect("the same room", is(simbolufa::needed_bytes(table, 2, renamed, needed), 0, 0, 6, 16) && needed == 88);
+    expect("one byte less", is(simbolufa::convert_after(table, 2, 7, renamed, {after.data(), 87}), 7, 0, 0, 0));
+    expect("the most that is taken", is(simbolufa::convert_after(table, 2, 32000, renamed, after), 0, 0, 32001, 6));
+    expect("more than that", is(simbolufa::convert_after(table, 2, 32001, renamed, after), 2, 0, 0, 0));
+    expect("less than the options", is(simbolufa::convert_after(table, 2, 1, renamed, after), 2, 0, 0, 0));
+    expect("a symbol that is taken", is(simbolufa::convert_after(table, 1, 2, renamed, after), 3, 1, 0, 0));
+    expect("the record comes first", is(simbolufa::convert_after(table, 1, 0, renamed, after), 3, 1, 0, 0));
+    expect("the set comes after", is(simbolufa::convert_after(table, 2, 1, {}, after), 2, 0, 0, 0));
+    expect("no set", is(simbolufa::convert_after(table, 2, 2, {}, after), 4, 4, 0, 0));
+}
+
+void check_together()
+{
+    simbolufa::together guards(2);
+    expect("the options at first", guards.variables() == 2);
     Bytes first(88);
     Bytes second(88);
-    const simbolufa::answer told = simbolufa::convert(table, 2, renamed, first);
-    expect("the second guard", is(simbolufa::convert(table, told.first, renamed, second), 0, 0, 4, 6));
+    expect("the first guard", is(guards.convert(table, renamed, first), 0, 0, 3, 6) && guards.variables() == 3);
+    expect("the second guard", is(guards.convert(table, renamed, second), 0, 0, 4, 6) && guards.variables() == 4);
     expect("no helper is in both", helpers_of(first, 2) == std::vector<int32_t>{3} &&
                                        helpers_of(second, 2) == std::vector<int32_t>{4});
-    const simbolufa::answer full = simbolufa::convert(table, 32000, renamed, first);
-    expect("the most options and a helper", is(full, 0, 0, 32001, 6));
-    expect("no second guard after that", is(simbolufa::convert(table, full.first, renamed, second), 2, 0, 0, 0));
+    // By mistake this guard names symbol 3, which is the first guard's helper.
+    const Bytes mistaken = {2, 1, 0, 0, 0, 2, 3, 0, 0, 0, 4, 0, 0, 1, 0};
+    const Bytes before = second;
+    expect("a helper as a symbol", is(guards.convert(mistaken, Bytes(3), second), 3, 1, 0, 0));
+    expect("a refusal takes nothing", guards.variables() == 4 && second == before);
+    expect("no room takes nothing", is(guards.convert(table, renamed, {}), 7, 0, 0, 0) && guards.variables() == 4);
+    Bytes whole(160);
+    expect("nothing renamed takes nothing", is(guards.convert(table, none, whole), 0, 0, 4, 8) && guards.variables() == 4);
+    expect("the third guard", is(guards.convert(table, renamed, second), 0, 0, 5, 6) && guards.variables() == 5);
+
+    simbolufa::together full(32000);
+    expect("the most options and a helper", is(full.convert(table, renamed, first), 0, 0, 32001, 6));
+    expect("no second guard after that", is(full.convert(table, renamed, second), 2, 0, 0, 0));
+    expect("what was taken stays", full.variables() == 32001);
+    simbolufa::together none_right(32001);
+    expect("too many options", is(none_right.convert(table, renamed, second), 2, 0, 0, 0));
 }
 
 } // namespace
@@ -332,7 +370,8 @@ int main()
     check_texts();
     check_views();
     check_text_sizes();
-    check_two_guards();
+    check_convert_after();
+    check_together();
     std::printf("wrapper: %d checks, %d wrong\n", checks, wrong);
     return wrong == 0 ? 0 : 1;
 }

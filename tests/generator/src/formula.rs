@@ -11,6 +11,19 @@ pub struct Formula {
     pub options: u32,
 }
 
+impl Formula {
+    /// Makes one of the symbols another number, where there is a symbol.
+    pub fn rename_symbol(&mut self, random: &mut Random, symbol: u16) {
+        let symbols: Vec<usize> = (0..self.nodes.len())
+            .filter(|&number| self.nodes[number].kind == 2)
+            .collect();
+        if !symbols.is_empty() {
+            self.nodes[random.pick(&symbols)].a = symbol;
+            self.table = bytes(&self.nodes);
+        }
+    }
+}
+
 pub fn right_formula(random: &mut Random, count: usize) -> Formula {
     let options = option_count(random);
     let nodes = right(random, options, count);
@@ -59,6 +72,16 @@ pub fn small_formula(random: &mut Random) -> Formula {
     match random.percent(8) {
         true => damaged(random, formula),
         false => formula,
+    }
+}
+
+/// A small right formula of a project with so many options.
+pub fn over_options(random: &mut Random, options: u32) -> Formula {
+    let small = random.between(1, 24);
+    let leaves = random.pick(&[1, 2, 3, 4, 6, 8]);
+    match random.percent(70) {
+        true => from_nodes(reached(random, options, leaves), options),
+        false => from_nodes(right(random, options, small), options),
     }
 }
 

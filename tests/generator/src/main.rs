@@ -3,6 +3,7 @@
 
 mod ceiling;
 mod clause_bytes;
+mod conversion;
 mod dimacs_text;
 mod field;
 mod formula;
@@ -12,6 +13,7 @@ mod request;
 mod set;
 mod table;
 
+use conversion::Chain;
 use random::Random;
 use request::request;
 use std::io::{self, Write};
@@ -30,11 +32,11 @@ fn run(arguments: &[String]) -> Result<(), String> {
         .map_or("check", String::as_str)
         .split(',')
         .collect();
-    let mut random = Random::new(seed);
+    let (mut random, mut chain) = (Random::new(seed), Chain::default());
     let mut out = io::BufWriter::new(io::stdout().lock());
     for turn in 0..count {
         let operation = random.pick(&operations);
-        let request = request(&mut random, turn, operation)
+        let request = request(&mut random, &mut chain, turn, operation)
             .ok_or_else(|| format!("no such operation: {operation}"))?;
         writeln!(out, "{request}").map_err(|error| error.to_string())?;
     }

@@ -1,6 +1,7 @@
 //! Requests of the line protocol, each part of which may be at fault.
 
 use crate::clause_bytes::{self, variable_count};
+use crate::conversion::{self, formula_fields, some_set, Chain};
 use crate::dimacs_text;
 use crate::field::{answer_part, input, input_in_parts, output, room};
 use crate::formula::{any_formula, right_formula, small_formula, Formula};
@@ -8,23 +9,27 @@ use crate::node_file::node_file;
 use crate::random::Random;
 use crate::set::set;
 use crate::table::MOST_NODES;
-use reference::fast_choose::fast_choose;
-use reference::{convert, dimacs_writer, table};
+use reference::dimacs_writer;
 
 /// One in this many checks has a right table, and these go through all node counts.
 const RIGHT_TURN: usize = 10;
-/// Longer conversions are asked for seldom, so that most requests are quick.
-const LONG: u64 = 20_000;
 
-/// The request of a turn, of the operation named. None where there is no such operation.
-pub fn request(random: &mut Random, turn: usize, operation: &str) -> Option<String> {
+/// The request of a turn, of the operation named. None where there is no such operation. A chain of guards goes on from
+/// request to request.
+pub fn request(
+    random: &mut Random,
+    chain: &mut Chain,
+    turn: usize,
+    operation: &str,
+) -> Option<String> {
     let fields = match operation {
         "check" => check(random, turn),
         "marks" => marks(random, turn),
         "set" => set_fields(random, turn),
         "measure" => measure(random),
         "choose" => choose(random),
-        "convert" => convert_fields(random),
+        "convert" => conversion::convert(random),
+        "convert_after" => conversion::convert_after(random, chain),
         "write_dimacs" => write_dimacs(random),
         "read_dimacs" => read_dimacs(random),
         "program" => program(random),
@@ -39,10 +44,6 @@ fn checked_formula(random: &mut Random, turn: usize) -> Formula {
         0 => right_formula(random, 1 + turn / RIGHT_TURN % MOST_NODES),
         _ => any_formula(random),
     }
-}
-
-fn formula_fields(random: &mut Random, formula: &Formula) -> String {
-    format!("{} {}", formula.options, input(random, &formula.table))
 }
 
 fn check(random: &mut Random, turn: usize) -> String {
@@ -61,18 +62,6 @@ fn set_fields(random: &mut Random, turn: usize) -> String {
     let set = set(random, &formula.nodes, 60);
     let lent = formula_fields(random, &formula);
     format!("{lent} {}", input(random, &set))
-}
-
-/// A set for a formula: mostly drawn, sometimes the one that would be chosen.
-fn some_set(random: &mut Random, formula: &Formula) -> Vec<u8> {
-    if random.percent(20) {
-        let allowance = random.pick(&[1, 2, 1_024]);
-        if let Ok(nodes) = table::check(&formula.table, formula.options) {
-            let chosen = fast_choose(&nodes, allowance).set;
-            return chosen.into_iter().map(u8::from).collect();
-        }
-    }
-    set(random, &formula.nodes, 15)
 }
 
 fn measure(random: &mut Random) -> String {
@@ -99,33 +88,6 @@ fn choose(random: &mut Random) -> String {
     let set = output(random, length);
     let answer = answer_part(random, 4);
     format!("{} {allowance} {lent} {set} {answer}", formula.options)
-}
-
-fn convert_fields(random: &mut Random) -> String {
-    let formula = small_formula(random);
-    let set = some_set(random, &formula);
-    let out = match needed(&formula, &set) {
-        Some(bytes) if bytes <= LONG || random.percent(2) => room(random, bytes as usize),
-        // The buffer is short, or the conversion is refused before it is looked at.
-        _ => {
-            let length = random.pick(&[0, 4, 64, 4_000]);
-            output(random, length)
-        }
-    };
-    let lent = formula_fields(random, &formula);
-    let set = input(random, &set);
-    format!("{lent} {set} {out} {}", answer_part(random, 4))
-}
-
-/// The bytes of a conversion, where it is not refused.
-fn needed(formula: &Formula, set: &[u8]) -> Option<u64> {
-    let nodes = table::check(&formula.table, formula.options).ok()?;
-    let renamed = reference::set::check(&nodes, set).ok()?;
-    let size = convert::measure(&nodes, &renamed);
-    if size.clauses > 65_534 || size.literals > 999_999 {
-        return None;
-    }
-    Some(convert::room(size))
 }
 
 fn write_dimacs(random: &mut Random) -> String {
@@ -220,9 +182,9 @@ mod tests {
     use super::*;
 
     fn requests(seed: u64, operation: &str) -> Vec<String> {
-        let mut random = Random::new(seed);
+        let (mut random, mut chain) = (Random::new(seed), Chain::default());
         (0..5_000)
-            .map(|turn| request(&mut random, turn, operation).unwrap())
+            .map(|turn| request(&mut random, &mut chain, turn, operation).unwrap())
             .collect()
     }
 
@@ -236,7 +198,14 @@ mod tests {
 
     #[test]
     fn a_seed_settles_the_requests() {
-        for operation in ["check", "choose", "convert", "write_dimacs", "read_dimacs"] {
+        for operation in [
+            "check",
+            "choose",
+            "convert",
+            "convert_after",
+            "write_dimacs",
+            "read_dimacs",
+        ] {
             assert_eq!(requests(1, operation), requests(1, operation));
             assert_ne!(requests(1, operation), requests(2, operation));
         }
@@ -278,7 +247,7 @@ mod tests {
         let mut random = Random::new(1);
         for count in 1..=MOST_NODES {
             let turn = (count - 1) * RIGHT_TURN;
-            let request = request(&mut random, turn, "marks").unwrap();
+            let request = request(&mut random, &mut Chain::default(), turn, "marks").unwrap();
             assert_eq!(request.split(' ').nth(2).unwrap().len(), 10 * count);
         }
     }
@@ -304,7 +273,28 @@ mod tests {
     }
 
     #[test]
+    fn what_is_taken_is_asked_from_below_the_options_to_over_the_limit() {
+        let requests = requests(1, "convert_after");
+        let mut found = [0; 6];
+        for request in &requests {
+            let numbers = request.split(' ').skip(1).take(2);
+            let numbers: Vec<u32> = numbers.map(|word| word.parse().unwrap()).collect();
+            let (options, taken) = (numbers[0], numbers[1]);
+            let kind = match taken {
+                _ if options > 32_000 => 0,
+                _ if taken < options => 1,
+                _ if taken == options => 2,
+                0..=31_999 => 3,
+                32_000 => 4,
+                _ => 5,
+            };
+            found[kind] += 1;
+        }
+        assert!(found.iter().all(|&count| count > 10), "{found:?}");
+    }
+
+    #[test]
     fn there_is_no_other_operation() {
-        assert!(request(&mut Random::new(1), 1, "Check").is_none());
+        assert!(request(&mut Random::new(1), &mut Chain::default(), 1, "Check").is_none());
     }
 }

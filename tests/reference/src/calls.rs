@@ -15,6 +15,7 @@ pub fn answer(line: &str) -> Result<String, Wrong> {
         "measure" => measure,
         "choose" => choose_set,
         "convert" => convert_table,
+        "convert_after" => convert_after,
         "write_dimacs" => write_dimacs,
         "read_dimacs" => read_dimacs,
         "program" => run_program,
@@ -90,6 +91,22 @@ fn convert_table(fields: &mut Fields) -> Result<String, Wrong> {
         let nodes = table::check(&table, options)?;
         let renamed = set::check(&nodes, &set)?;
         convert::clause_bytes(&nodes, options, &renamed, lent)
+    }))
+}
+
+/// The table is checked by the options, and helpers come after what is taken.
+fn convert_after(fields: &mut Fields) -> Result<String, Wrong> {
+    let options = fields.number()?;
+    let taken = fields.number()?;
+    let table = fields.input()?;
+    let set = fields.input()?;
+    let out = fields.output()?;
+    let answer = fields.answer_part()?;
+    Ok(written(out, answer, |lent| {
+        let nodes = table::check(&table, options)?;
+        table::check_taken(options, taken)?;
+        let renamed = set::check(&nodes, &set)?;
+        convert::clause_bytes(&nodes, taken, &renamed, lent)
     }))
 }
 
@@ -221,6 +238,36 @@ mod tests {
     }
 
     #[test]
+    fn a_conversion_after_others_has_helpers_after_what_is_taken() {
+        let of = |numbers: &str, set: &str, room: usize| {
+            answer(&format!("convert_after {numbers} {SHARED} {set} {room} 16")).unwrap()
+        };
+        let plain = answer(&format!("convert 2 {SHARED} 00000100 90 16")).unwrap();
+        assert_eq!(of("2 2", "00000100", 90), plain);
+        // The helper is 8 in each of its places, and nothing else is changed.
+        let (clauses, part) = (plain.split(' ').nth(1).unwrap(), "0000000008000000");
+        let moved = clauses
+            .replace("03000000", "08000000")
+            .replace("fdffffff", "f8ffffff");
+        assert_eq!(
+            of("2 7", "00000100", 90),
+            format!("0 {moved} 00000000{part}06000000")
+        );
+        assert!(of("2 32000", "00000100", 90).ends_with(" 0000000000000000017d000006000000"));
+        // 1, 2 and 3 by the options come first, then 2 for what is taken, then 4.
+        let refused = |number: u8, place: u8| {
+            format!("{number} 05 0{number}0000000{place}0000000000000000000000")
+        };
+        assert_eq!(of("1 0", "00000101", 1), refused(3, 1));
+        assert_eq!(of("1 2", "00000101", 1), refused(3, 1));
+        assert_eq!(of("2 1", "00000101", 1), refused(2, 0));
+        assert_eq!(of("2 32001", "00000101", 1), refused(2, 0));
+        assert_eq!(of("32001 2", "00000101", 1), refused(2, 0));
+        assert_eq!(of("2 2", "00000101", 1), refused(4, 3));
+        assert_eq!(of("2 2", "00000100", 1), refused(7, 0));
+    }
+
+    #[test]
     fn dimacs_is_written_and_read() {
         assert_eq!(
             answer("write_dimacs 2 feffffff0000000000000000 20 16").unwrap(),
@@ -269,6 +316,7 @@ mod tests {
             "Check 1 - 16",
             " check 1 - 16",
             "convert 1 0201000000 00 = 16",
+            "convert_after 1 0201000000 00 8 16",
             "read_dimacs 00 16",
         ] {
             assert!(answer(line).is_err(), "{line}");

@@ -16,9 +16,10 @@ pub fn room(size: Size) -> u64 {
     4 * (size.literals + size.clauses)
 }
 
-/// The helper of each renamed node in rising node number, from V + 1. 0 for all others.
-fn helpers(options: u32, renamed: &[bool]) -> Vec<i32> {
-    let mut last = options as i32;
+/// The helper of each renamed node in rising node number, from the variable after the last one that is taken. 0 for all
+/// others.
+fn helpers(taken: u32, renamed: &[bool]) -> Vec<i32> {
+    let mut last = taken as i32;
     let helper = |&renamed: &bool| {
         if !renamed {
             return 0;
@@ -29,9 +30,10 @@ fn helpers(options: u32, renamed: &[bool]) -> Vec<i32> {
     renamed.iter().map(helper).collect()
 }
 
-/// Hands over each clause of the output in order. The output must be below both ceilings.
-pub fn each_clause(nodes: &[Node], options: u32, renamed: &[bool], mut take: impl FnMut(&[i32])) {
-    let (lists, marks, helpers) = (Lists::new(nodes), marks(nodes), helpers(options, renamed));
+/// Hands over each clause of the output in order. The output must be below both ceilings. `taken` is the highest variable
+/// in use before: V, or more where guards before this one have helpers.
+pub fn each_clause(nodes: &[Node], taken: u32, renamed: &[bool], mut take: impl FnMut(&[i32])) {
+    let (lists, marks, helpers) = (Lists::new(nodes), marks(nodes), helpers(taken, renamed));
     let sizes = rows(&lists, renamed);
     let mut walk = Walk::new(&lists, &helpers, &sizes);
     let body = |node: usize, positive: bool| Goal::Body(Side { node, positive });
@@ -53,7 +55,7 @@ pub fn each_clause(nodes: &[Node], options: u32, renamed: &[bool], mut take: imp
 /// The clause bytes, with variables and clauses, for a buffer of `lent` bytes. Else refusal 5, 6 or 7.
 pub fn clause_bytes(
     nodes: &[Node],
-    options: u32,
+    taken: u32,
     renamed: &[bool],
     lent: usize,
 ) -> Result<(Vec<u8>, [u32; 2]), Refusal> {
@@ -68,11 +70,11 @@ pub fn clause_bytes(
         return Err(Refusal::new(7));
     }
     let mut bytes = Vec::with_capacity(room(size) as usize);
-    each_clause(nodes, options, renamed, |clause| {
+    each_clause(nodes, taken, renamed, |clause| {
         for literal in clause.iter().chain(&[0]) {
             bytes.extend(literal.to_le_bytes());
         }
     });
     let helpers = renamed.iter().filter(|&&renamed| renamed).count() as u32;
-    Ok((bytes, [options + helpers, size.clauses as u32]))
+    Ok((bytes, [taken + helpers, size.clauses as u32]))
 }

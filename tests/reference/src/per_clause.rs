@@ -233,9 +233,10 @@ impl Writer<'_> {
 }
 
 /// Writes the clause bytes to the front of a lent buffer, and gives variables and clauses. Else refusal 5, 6 or 7.
+/// `taken` is the highest variable in use before.
 pub fn convert(
     nodes: &[Node],
-    options: u32,
+    taken: u32,
     renamed: &[bool],
     out: &mut [u8],
 ) -> Result<[u32; 2], Refusal> {
@@ -251,7 +252,7 @@ pub fn convert(
         return Err(Refusal::new(7));
     }
 
-    let mut variables = options;
+    let mut variables = taken;
     let mut helpers = vec![0; nodes.len()];
     for node in (0..nodes.len()).filter(|&node| renamed[node]) {
         variables += 1;

@@ -67,6 +67,14 @@ pub fn check(table: &[u8], options: u32) -> Result<Vec<Node>, Refusal> {
         .collect()
 }
 
+/// Looks at the highest variable in use before a guard of a project with so many options is converted. The refusal is 2.
+pub fn check_taken(options: u32, taken: u32) -> Result<(), Refusal> {
+    if !(options..=MOST_OPTIONS).contains(&taken) {
+        return Err(Refusal::new(2));
+    }
+    Ok(())
+}
+
 #[cfg(test)]
 pub mod tests {
     use super::*;
@@ -131,6 +139,29 @@ pub mod tests {
         assert_eq!(refused(&wrong[..4], 32_001), Some((1, 0)));
         assert_eq!(refused(&wrong, 32_001), Some((2, 0)));
         assert_eq!(refused(&wrong, 32_000), Some((3, 0)));
+    }
+
+    #[test]
+    fn what_is_taken_goes_from_the_options_to_32000() {
+        let refused = |options, taken| check_taken(options, taken).err();
+        for (options, taken) in [(0, 0), (0, 32_000), (6, 6), (6, 7), (32_000, 32_000)] {
+            assert_eq!(refused(options, taken), None, "{options}, {taken}");
+        }
+        for (options, taken) in [
+            (1, 0),
+            (6, 5),
+            (0, 32_001),
+            (32_000, 31_999),
+            (32_000, 32_001),
+            (6, 65_542),
+            (6, u32::MAX),
+        ] {
+            assert_eq!(
+                refused(options, taken),
+                Some(Refusal::new(2)),
+                "{options}, {taken}"
+            );
+        }
     }
 
     #[test]

@@ -106,3 +106,66 @@ fn rows_of_the_clauses_are_rows_of_the_formula() {
     }
     assert!(with_helpers > 1_000, "{with_helpers}");
 }
+
+/// A guard of a list that is converted one after the other: its nodes, and each renamed node with its helper.
+struct Guard {
+    nodes: Vec<Node>,
+    helpers: Vec<(usize, usize)>,
+}
+
+#[test]
+fn guards_converted_one_after_the_other_mean_all_of_them_together() {
+    let mut random = Random(987_654_321);
+    let (mut both_kinds, mut with_helpers) = ([0, 0], 0);
+    for turn in 0..1_500 {
+        let (mut guards, mut clauses, mut taken) = (vec![], vec![], OPTIONS);
+        for _ in 0..2 + turn % 3 {
+            let nodes = table(&mut random, 4 + turn % 7);
+            // Two helpers at most for each guard, so that all rows can be gone through.
+            let mut left = 2;
+            let mut renamed = may_be_renamed(&nodes);
+            for may in renamed.iter_mut().filter(|may| **may) {
+                *may = left > 0 && random.below(3) > 0;
+                left -= usize::from(*may);
+            }
+            if measure(&nodes, &renamed).literals > 2_000 {
+                continue;
+            }
+            let nodes_renamed = (0..nodes.len()).filter(|&node| renamed[node]);
+            let helpers: Vec<(usize, usize)> = nodes_renamed.zip(taken + 1..).collect();
+            // Each variable is an option that this guard names, or a helper of one of its own nodes.
+            let named = |variable: usize| match variable <= OPTIONS {
+                true => nodes.contains(&Symbol(variable as u16)),
+                false => helpers.iter().any(|&(_, helper)| helper == variable),
+            };
+            each_clause(&nodes, taken as u32, &renamed, |clause| {
+                let mut variables = clause.iter().map(|literal| literal.unsigned_abs() as usize);
+                assert!(variables.all(named), "{nodes:?} {renamed:?}");
+                clauses.push(clause.to_vec())
+            });
+            taken += helpers.len();
+            guards.push(Guard { nodes, helpers });
+        }
+        with_helpers += usize::from(guards.iter().filter(|it| !it.helpers.is_empty()).count() > 1);
+        for row in 0..1 << OPTIONS {
+            let (mut holds, mut extended) = (true, row);
+            for guard in &guards {
+                let truths = truths(&guard.nodes, row);
+                holds &= truths[guard.nodes.len() - 1];
+                for &(node, helper) in &guard.helpers {
+                    extended |= usize::from(truths[node]) << (helper - 1);
+                }
+            }
+            both_kinds[usize::from(holds)] += 1;
+            assert_eq!(satisfies(extended, &clauses), holds);
+            for values in 0..1 << (taken - OPTIONS) {
+                assert!(holds || !satisfies(row | values << OPTIONS, &clauses));
+            }
+        }
+    }
+    assert!(with_helpers > 500, "{with_helpers}");
+    assert!(
+        both_kinds.iter().all(|&count| count > 500),
+        "{both_kinds:?}"
+    );
+}
