@@ -12,11 +12,16 @@ use lib.ListN.{length}
 use Rattle.laws.specs.Lists.{splice}
 use Rattle.laws.specs.Numbers.{cap, little}
 
+-- R10.5
+abbrev pub mostShown : ℕ
+mostShown = 4_294_967_295
+
 -- R10.4
 abbrev pub refused : ℕ → ℕ → Told
 refused number place = record { number = number; place = place; first = 0; second = 0 }
 
--- R10.8 to R10.19; the number of a wrong record is the one that the rule of records gives
+-- R10.8 to R10.19; the number of a wrong record is the one that the rule of records gives. Only of a text can a place be over the
+-- largest that shows (R10.5)
 abbrev pub toldOf : Answer → Told
 toldOf (Accepted first second) = record { number = 0; place = 0; first = first; second = second }
 toldOf TableLength = refused 1 0
@@ -26,7 +31,7 @@ toldOf (Set node) = refused 4 node
 toldOf Clauses = refused 5 0
 toldOf Literals = refused 6 0
 toldOf Room = refused 7 0
-toldOf (Text place) = refused 8 place
+toldOf (Text place) = refused 8 (cap mostShown place)
 toldOf ClauseBytes = refused 9 0
 toldOf (Line line) = refused 10 line
 toldOf AnswerPart = refused 11 0
@@ -37,10 +42,6 @@ refuses a = not (eqb (toldOf a .number) 0)
 -- R10.2: a refusal stands, and after acceptance the next check decides
 abbrev pub after : Answer → Answer → Answer
 after a next = cond (refuses a) a next
-
--- R10.5
-abbrev pub mostShown : ℕ
-mostShown = 4_294_967_295
 
 -- R11.3: number, place and the two values
 abbrev pub bytesOf : Told → List ℕ

@@ -74,7 +74,7 @@ pub fn tell(answer: Answer) -> Told
         Answer::Clauses => refusal(5, 0),
         Answer::Literals => refusal(6, 0),
         Answer::Room => refusal(7, 0),
-        Answer::Text { place } => refusal(8, place),
+        Answer::Text { place } => refusal(8, shown(place) as usize),
         Answer::ClauseBytes => refusal(9, 0),
         Answer::Line { line } => refusal(10, line as usize),
         Answer::AnswerPart => refusal(11, 0),

@@ -1,7 +1,7 @@
 -- `answer::tell` meets its contract: each arm gives its row of the table of refusals. Assumes nothing.
 use mathlib.Core.Path.{sym, ap, _∙_}
 use borrow.Author.Needs.{needs}
-use Rattle.answer.specs.Answers.{toldOf}
+use Rattle.answer.specs.Answers.{refused, toldOf}
 use Rattle.answer.proofs.tell.Statement.{statement}
 use Rattle.answer.proofs.tell.Tie as tie
 
@@ -31,6 +31,8 @@ tell-spec =
     (λ c. search needs)
     (λ c κs. search needs)
     (λ c. search needs)
+    (λ c κs. search needs)
+    (λ c. search needs)
     (λ c. search needs)
     (λ c κs. search needs)
     (λ c. search needs)
@@ -43,7 +45,8 @@ tell-spec =
     (λ c. c .refusal5 .ensures ∙ sym (ap toldOf (c .before .enum-told3 .given .1)))
     (λ c. c .refusal6 .ensures ∙ sym (ap toldOf (c .before .enum-told4 .given .1)))
     (λ c. c .refusal7 .ensures ∙ sym (ap toldOf (c .before .enum-told5 .given .1)))
-    (λ c. c .refusal8 .ensures ∙ sym (ap toldOf (c .before .before .answer4 .given .1)))
+    (λ c. let shown = c .before in
+    c .refusal8 .ensures ∙ ap (refused 8) (shown .shown .ensures) ∙ sym (ap toldOf (shown .before .before .answer4 .given .1)))
     (λ c. c .refusal9 .ensures ∙ sym (ap toldOf (c .before .enum-told6 .given .1)))
     (λ c. c .refusal10 .ensures ∙ sym (ap toldOf (c .before .before .answer5 .given .1)))
     (λ c. c .refusal11 .ensures ∙ sym (ap toldOf (c .before .enum-told7 .given .1))))
