@@ -1,7 +1,7 @@
 -- The three demands hold of the entries.
 -- Assumes nothing.
 use mathlib.Core.Path.{_≡_, refl, sym, ap, _∙_, subst}
-use mathlib.Core.Bool.{Bool, true, false, cond}
+use mathlib.Core.Bool.{Bool, true, false}
 use mathlib.Core.List.{List, _∷_}
 use Prim.Native.Nat.{ℕ, _≤_, _<_, _^_}
 use native.Mathlib.Omega.{arith}
@@ -22,7 +22,7 @@ use Rattle.clausal.specs.Calls.{measured, chosenBy, converted, convertedAfter}
 use Rattle.choose.proofs.Allowances.{compared}
 use Rattle.convert.proofs.Laws.Checked.{few-options}
 use Rattle.dimacs.specs.Texts.{writeCall, writtenText}
-use Rattle.dimacs.specs.Inner.Calls.{readCall, textLength}
+use Rattle.dimacs.specs.Inner.Calls.{readCall}
 use Rattle.dimacs.proofs.RoundTrip.{reads-what-writes}
 use Rattle.claims.specs.Calls.{first, second, Guard, nodes, names, guards, Check, checkSeen, checkGuard, Measure, measureSeen}
 use Rattle.claims.specs.Calls.{measureGuard, Choose, chooseSeen, chooseGuard, allowance, Convert, convertSeen, convertGuard}
@@ -83,7 +83,7 @@ after-done c z = let g = afterGuard c in
 
 -- the round trip
 module _ (w : Write) (r : Read) (z : writeSeen w .returned ≡ 0)
-    (same : textOf r ≡ take (textLength (clauseBytes w) (declared w)) (writeSeen w .after))
+    (same : textOf r ≡ take (length (writtenText (declared w) (clausesOf (clauseBytes w)))) (writeSeen w .after))
     (room : length (clauseBytes w) ≤ length (readSeen r .before)) (part : length (readSeen r .part) ≡ 16) where
   abbrev bytes : List ℕ
   bytes = clauseBytes w
@@ -104,7 +104,6 @@ module _ (w : Write) (r : Read) (z : writeSeen w .returned ≡ 0)
   text-same : textOf r ≡ text
   text-same =
       same
-      ∙ ap (λ (b : Bool). take (cond b 0 (length text)) (writeSeen w .after)) (wrote .0)
       ∙ ap (take (length text)) (done .outputs ∙ ap (λ (x : Wrote (List ℕ)). x .output) (wrote .1))
       ∙ take-append-seam text (drop (length text) (writeSeen w .before))
 

@@ -22,7 +22,7 @@ use Rattle.clausal.specs.Output.{outputOf}
 use Rattle.clausebytes.specs.Words.{wrongBytes, clausesOf}
 use Rattle.clausal.specs.Calls.{measured, chosenBy, converted, convertedAfter}
 use Rattle.dimacs.specs.Texts.{writeCall, Text, writtenText}
-use Rattle.dimacs.specs.Inner.Calls.{readCall, textLength}
+use Rattle.dimacs.specs.Inner.Calls.{readCall}
 use Rattle.claims.specs.Calls.{Seen, first, second, Guard, nodes, names, Check, checkSeen, checkGuard, Measure, measureSeen}
 use Rattle.claims.specs.Calls.{measureGuard, Choose, chooseSeen, chooseGuard, allowance, Convert, convertSeen, convertGuard}
 use Rattle.claims.specs.Calls.{ConvertAfter, afterSeen, afterGuard, guards, guardIn, Write, writeSeen, clauseBytes, declared, Read}
@@ -81,7 +81,7 @@ pub record Demand2 : Type 0 where
       × Gives (readSeen c) v (length cs) (over (clausesBytes cs) (readSeen c .before))
   -- R15.6: the text that a call has written is read, given room, as the same clause bytes with the same two values
   pub roundTrip : (w : Write) (r : Read) → writeSeen w .returned ≡ 0
-      → textOf r ≡ take (textLength (clauseBytes w) (declared w)) (writeSeen w .after)
+      → textOf r ≡ take (length (writtenText (declared w) (clausesOf (clauseBytes w)))) (writeSeen w .after)
       → length (clauseBytes w) ≤ length (readSeen r .before) → length (readSeen r .part) ≡ 16
       → (readSeen r .returned ≡ 0) × (readSeen r .told ≡ writeSeen w .told)
       × (readSeen r .after ≡ over (clauseBytes w) (readSeen r .before))
