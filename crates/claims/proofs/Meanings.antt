@@ -29,7 +29,7 @@ use Rattle.clausebytes.specs.Words as right
 use Rattle.clausebytes.specs.Words.{Within, Right}
 use Rattle.clausebytes.proofs.Encoded.{clauses-of-bytes, not-wrong-of-right}
 use Rattle.clausal.specs.Calls.{ceilings}
-use Rattle.convert.proofs.Laws.Helpers.{below-le}
+use Rattle.parts.proofs.Laws.Helpers.{below-le}
 use Rattle.claims.specs.Calls.{Guard, nodes, names}
 use Rattle.claims.specs.Claims.{Means, decoded}
 use Rattle.claims.proofs.Answered.{not-both}

@@ -16,7 +16,7 @@ use Rattle.answer.specs.declared.Answer.the-variants.{Accepted, Clauses, Litera
 use Rattle.clausal.specs.Clauses.{Clause, clauseBytes, clausesBytes}
 use Rattle.clausal.specs.Totals.{Size, sizeOf, shown, clauseCeiling, literalCeiling}
 use Rattle.clausal.specs.Calls.{ceilings}
-use Rattle.convert.proofs.Laws.Parts.{length-clause}
+use Rattle.parts.proofs.Laws.Parts.{length-clause}
 use Rattle.convert.specs.Inner.Fitted.{bytesFor, fitted}
 
 -- which of the refusals comes: 5, 6, 7 or none

@@ -22,12 +22,12 @@ use Rattle.clausal.proofs.Totals.{totals-output}
 use Rattle.totals.specs.Inner.Columns.{rowIn}
 use Rattle.totals.proofs.Laws.Columns.{ready-row}
 use Rattle.convert.specs.Inner.Fitted.{fitted, writtenUnder, Prepared}
-use Rattle.convert.specs.Inner.Helpers.{helpersOf, Unnamed}
-use Rattle.convert.specs.Inner.Lists.{namesIn}
-use Rattle.convert.specs.Inner.Parts.{allParts, OutputDue}
-use Rattle.convert.specs.Inner.Written.{Writable}
+use Rattle.parts.specs.Inner.Helpers.{helpersOf, Unnamed}
+use Rattle.walk.specs.Inner.Lists.{namesIn}
+use Rattle.parts.specs.Inner.Parts.{allParts, OutputDue}
+use Rattle.walk.specs.Inner.Written.{Writable}
 use Rattle.convert.proofs.Laws.Fitted.{fitted-shown, fitted-below, length-bytes, fitted-stored}
-use Rattle.convert.proofs.Laws.Output.{written-output, root-plain, names-are}
+use Rattle.parts.proofs.Laws.Output.{written-output, root-plain, names-are}
 
 module _ (t : List ℕ) (taken : ℕ) (marks s : List ℕ) (cs ls : List (List ℕ)) (p : Prepared t taken marks s cs ls) where
   abbrev u : Renaming

@@ -1,0 +1,3 @@
+-- What the contracts of this crate and of those above it cite.
+pub mod Helpers
+pub mod Parts

@@ -1,0 +1,7 @@
+-- Laws of the walk, by subject.
+pub mod Counts
+pub mod Found
+pub mod Leads
+pub mod Put
+pub mod Walks
+pub mod Writes

@@ -1,0 +1,3 @@
+-- Laws and theorems of the walk to a clause.
+pub mod Laws
+pub mod NoChoice

@@ -1,0 +1,4 @@
+-- What the contracts of this crate and of those above it cite.
+pub mod Lists
+pub mod Steps
+pub mod Written
