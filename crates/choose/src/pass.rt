@@ -18,7 +18,7 @@ use formula::node::MOST_NODES;
 use formula::node::NODE_BYTES;
 use formula::set::may_rename;
 use totals::rows::fill;
-use totals::total::ClauseTotal;
+use capped::total::ClauseTotal;
 use totals::trial::trial;
 use totals::whole::whole;
 

@@ -4,7 +4,7 @@ ghost use lib.ListN.{length};
 ghost use Rattle.formula.specs.Tables.{nodesOf};
 ghost use Rattle.laws.specs.Lists.{splice};
 ghost use Rattle.clausal.specs.Clauses.{renaming, variablesOf};
-ghost use Rattle.totals.specs.Inner.Sized.{sized};
+ghost use Rattle.capped.specs.Inner.Sized.{sized};
 ghost use Rattle.clausal.specs.Calls.{takenChecked, convertedUnder, converted, convertedAfter};
 ghost use Rattle.convert.specs.Inner.Fitted.{fitted, writtenUnder, outputBytes, Convertible, Settled, Measured, Fitting};
 use parts::helper::name_all;
@@ -15,9 +15,9 @@ use formula::mark::mark_all;
 use formula::node::MOST_NODES;
 use formula::node::MOST_OPTIONS;
 use totals::rows::fill;
-use totals::total::ClauseTotal;
-use totals::total::LiteralTotal;
-use totals::total::Total;
+use capped::total::ClauseTotal;
+use capped::total::LiteralTotal;
+use capped::total::Total;
 use totals::whole::whole;
 
 // Whether totals are below their ceilings, and a buffer has room for the output.

@@ -2,5 +2,4 @@
 pub mod Grids
 pub mod Columns
 pub mod Small
-pub mod Stated
 pub mod Sums

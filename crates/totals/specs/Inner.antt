@@ -1,4 +1,4 @@
 -- What only contracts inside the crate and of its callers cite.
-pub mod Sized
+pub mod Rowed
 pub mod Columns
 pub mod Sums

@@ -2,7 +2,7 @@
 ghost use Rattle.formula.specs.Tables.{nodesOf};
 ghost use Rattle.totals.specs.Inner.Sums.{Triable, Tried};
 use crate::rows::fill;
-use crate::total::ClauseTotal;
+use capped::total::ClauseTotal;
 use crate::whole::whole;
 
 // Sets the byte of node `i`, and gives the clause total under the set then; no node below `from` is renamed in it. The

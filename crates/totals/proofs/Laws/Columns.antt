@@ -23,9 +23,10 @@ use Rattle.clausal.specs.Totals.{Size, capped}
 use Rattle.clausal.proofs.Reuse.{rows-kept-by-trial}
 use Rattle.clausal.proofs.Rows.{getD-rows, row-from, row-past, seen-plain, seen-renamed}
 use Rattle.totals.specs.Inner.Columns.{cell, rowIn, childIn, rowNext, rowTotals, Ready}
-use Rattle.totals.specs.Inner.Sized.{asTotal, rowed, asRow}
+use Rattle.capped.specs.Inner.Sized.{asTotal}
+use Rattle.totals.specs.Inner.Rowed.{rowed, asRow}
 use Rattle.totals.specs.declared.rows.Row.{Row}
-use Rattle.totals.specs.declared.total.Total.{Total}
+use Rattle.capped.specs.declared.total.Total.{Total}
 use Rattle.totals.proofs.Laws.Grids.{putBoth, both-shaped, both-positive, both-negative, both-other, zeros, zeros-shaped, zeros-cell}
 use Rattle.totals.proofs.Laws.Grids.{same-cells}
 

@@ -4,7 +4,7 @@ use mathlib.Core.Path.{_≡_, sym, ap, _∙_}
 use Prim.Native.Nat.{ℕ, _≤_}
 use native.Mathlib.Omega.{arith}
 use Rattle.formula.specs.Tables.{nodeCount, nodesOf}
-use Rattle.totals.specs.declared.total.Total.{Total}
+use Rattle.capped.specs.declared.total.Total.{Total}
 use Rattle.totals.proofs.Laws.Columns.{ready-start}
 use Rattle.choose.proofs.Laws.Pass.{Passing, passing-start, passing-size, passing-next, passing-step, passing-end, empty-low}
 use Rattle.choose.proofs.pass.pass.Statement.{statement}

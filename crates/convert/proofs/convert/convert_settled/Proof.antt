@@ -3,7 +3,7 @@ use mathlib.Core.Path.{ap}
 use native.Mathlib.Omega.{arith}
 use borrow.Author.Needs.{needs}
 use Rattle.formula.specs.Tables.{nodesOf}
-use Rattle.totals.specs.Inner.Sized.{sized}
+use Rattle.capped.specs.Inner.Sized.{sized}
 use Rattle.totals.proofs.Laws.Columns.{ready-start}
 use Rattle.convert.proofs.convert.convert_settled.Statement.{statement}
 use Rattle.convert.proofs.convert.convert_settled.Tie as tie

@@ -4,7 +4,7 @@ use mathlib.Core.Path.{_∙_}
 use mathlib.Core.Bool.{false}
 use borrow.Author.Needs.{needs}
 use Rattle.answer.proofs.Laws.Order.{tested, refused-wrote, accepted-wrote}
-use Rattle.totals.specs.Inner.Sized.{sized}
+use Rattle.capped.specs.Inner.Sized.{sized}
 use Rattle.convert.proofs.Laws.Written.{fits-as-output, reported, reported-is, written-under}
 use Rattle.convert.proofs.convert.write_under.Statement.{statement}
 use Rattle.convert.proofs.convert.write_under.Tie as tie

@@ -4,7 +4,7 @@ use mathlib.Core.Path.{ap}
 use borrow.Author.Needs.{needs}
 use Rattle.answer.specs.declared.Answer.the-variants.{Accepted}
 use Rattle.answer.proofs.Laws.Order.{refused-first, accepted-first}
-use Rattle.totals.specs.declared.total.Total.{Total}
+use Rattle.capped.specs.declared.total.Total.{Total}
 use Rattle.totals.proofs.measure.measure_under.Statement.{statement}
 use Rattle.totals.proofs.measure.measure_under.Tie as tie
 

@@ -7,7 +7,7 @@ use lib.ListN.{length}
 use Rattle.formula.specs.Tables.{mostNodes, nodeAt, nodeCount, nodesOf}
 use Rattle.formula.proofs.Laws.Tables.{length-nodesOf, nodeIn-nodesOf}
 use Rattle.totals.specs.Inner.Columns.{Ready}
-use Rattle.totals.specs.Inner.Sized.{asRow}
+use Rattle.totals.specs.Inner.Rowed.{asRow}
 use Rattle.totals.proofs.Laws.Columns.{next-ready, ready-more}
 use Rattle.totals.proofs.rows.fill.Statement.{statement}
 use Rattle.totals.proofs.rows.fill.Tie as tie

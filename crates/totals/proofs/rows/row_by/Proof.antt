@@ -3,7 +3,7 @@ use mathlib.Core.Path.{refl, _∙_}
 use borrow.Author.Needs.{needs}
 use Rattle.formula.specs.declared.node.Kind.the-variants.{False, True, Symbol, Not, And, Or, Implies, Equivalent, Unknown}
 use Rattle.clausal.specs.Totals.{capped}
-use Rattle.totals.specs.Inner.Sized.{sized, asTotal}
+use Rattle.capped.specs.Inner.Sized.{sized, asTotal}
 use Rattle.totals.proofs.Laws.Columns.{ruled}
 use Rattle.totals.proofs.rows.row_by.Statement.{statement}
 use Rattle.totals.proofs.rows.row_by.Tie as tie

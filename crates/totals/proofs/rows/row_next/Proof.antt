@@ -5,7 +5,7 @@ use Rattle.formula.specs.declared.node.Node.{Node}
 use Rattle.clausal.specs.Clauses.{rowBy}
 use Rattle.clausal.specs.Totals.{capped}
 use Rattle.totals.specs.Inner.Columns.{rowNext}
-use Rattle.totals.specs.Inner.Sized.{rowed, asRow}
+use Rattle.totals.specs.Inner.Rowed.{rowed, asRow}
 use Rattle.totals.proofs.rows.row_next.Statement.{statement}
 use Rattle.totals.proofs.rows.row_next.Tie as tie
 

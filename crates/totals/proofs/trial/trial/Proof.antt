@@ -8,7 +8,7 @@ use borrow.Author.Needs.{needs}
 use Rattle.formula.specs.Tables.{nodesOf}
 use Rattle.formula.proofs.Laws.Tables.{length-nodesOf}
 use Rattle.totals.specs.Inner.Columns.{Ready}
-use Rattle.totals.specs.declared.total.Total.{Total}
+use Rattle.capped.specs.declared.total.Total.{Total}
 use Rattle.totals.proofs.Laws.Columns.{ready-trial}
 use Rattle.totals.proofs.trial.trial.Statement.{statement}
 use Rattle.totals.proofs.trial.trial.Tie as tie

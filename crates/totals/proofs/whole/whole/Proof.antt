@@ -12,7 +12,8 @@ use Rattle.formula.proofs.Laws.Held.{heldAt-held}
 use Rattle.formula.proofs.Laws.Tables.{length-nodesOf}
 use Rattle.clausal.specs.Clauses.{Row, renaming, nameOf, rowOf}
 use Rattle.clausal.specs.Totals.{Size, capped}
-use Rattle.totals.specs.Inner.Sized.{sized, asTotal, rowed}
+use Rattle.capped.specs.Inner.Sized.{sized, asTotal}
+use Rattle.totals.specs.Inner.Rowed.{rowed}
 use Rattle.totals.specs.Inner.Sums.{withNode}
 use Rattle.totals.proofs.Laws.Columns.{ready-row}
 use Rattle.totals.proofs.Laws.Sums.{wholeTo, whole-start, whole-more}

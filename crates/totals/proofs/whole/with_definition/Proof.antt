@@ -4,9 +4,9 @@ use mathlib.Core.Bool.{true, false}
 use borrow.Author.Needs.{needs}
 use Rattle.formula.specs.declared.mark.Halves.{Halves}
 use Rattle.clausal.specs.Totals.{Size, capped}
-use Rattle.totals.specs.Inner.Sized.{sized, asTotal}
+use Rattle.capped.specs.Inner.Sized.{sized, asTotal}
 use Rattle.totals.specs.Inner.Sums.{withPart}
-use Rattle.totals.specs.declared.total.Total.{Total}
+use Rattle.capped.specs.declared.total.Total.{Total}
 use Rattle.totals.proofs.whole.with_definition.Statement.{statement}
 use Rattle.totals.proofs.whole.with_definition.Tie as tie
 

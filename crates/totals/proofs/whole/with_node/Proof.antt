@@ -3,7 +3,8 @@ use mathlib.Core.Path.{_∙_}
 use borrow.Author.Needs.{needs}
 use borrow.Author.Tests.{not-true, not-false}
 use Rattle.clausal.specs.Totals.{capped}
-use Rattle.totals.specs.Inner.Sized.{sized, asTotal, rowed}
+use Rattle.capped.specs.Inner.Sized.{sized, asTotal}
+use Rattle.totals.specs.Inner.Rowed.{rowed}
 use Rattle.totals.specs.Inner.Sums.{withDefinition}
 use Rattle.totals.proofs.whole.with_node.Statement.{statement}
 use Rattle.totals.proofs.whole.with_node.Tie as tie

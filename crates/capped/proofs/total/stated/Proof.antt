@@ -1,8 +1,8 @@
--- `totals::total::stated` meets its contract: below the ceiling, or not. Assumes nothing.
+-- `capped::total::stated` meets its contract: below the ceiling, or not. Assumes nothing.
 use borrow.Author.Needs.{needs}
 use borrow.Author.Tests.{lt-ltb, le-ltb}
-use Rattle.totals.proofs.total.stated.Statement.{statement}
-use Rattle.totals.proofs.total.stated.Tie as tie
+use Rattle.capped.proofs.total.stated.Statement.{statement}
+use Rattle.capped.proofs.total.stated.Tie as tie
 
 pub stated-spec : {M : Type 1} → statement M
 stated-spec =

@@ -8,7 +8,7 @@ use lib.Dec.{ltb}
 use borrow.Author.Tests.{ltb-true, ltb-false, lt-ltb, le-ltb}
 use Rattle.laws.specs.Numbers.{cap}
 use Rattle.clausal.specs.Totals.{Size, clauseCeiling, literalCeiling, shown}
-use Rattle.totals.specs.Inner.Sized.{asTotal, statedAs}
+use Rattle.capped.specs.Inner.Sized.{asTotal, statedAs}
 
 -- a capped number is below its ceiling exactly where the number is
 ltb-cap : (ceiling n : ℕ) → ltb (cap ceiling n) ceiling ≡ ltb n ceiling

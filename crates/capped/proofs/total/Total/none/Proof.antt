@@ -1,7 +1,7 @@
--- `totals::total::Total::none` meets its contract: no clause and no literal. Assumes nothing.
+-- `capped::total::Total::none` meets its contract: no clause and no literal. Assumes nothing.
 use borrow.Author.Needs.{needs}
-use Rattle.totals.proofs.total.Total.none.Statement.{statement}
-use Rattle.totals.proofs.total.Total.none.Tie as tie
+use Rattle.capped.proofs.total.Total.none.Statement.{statement}
+use Rattle.capped.proofs.total.Total.none.Tie as tie
 
 returns : tie.Need-returns
 returns c = λ i. record { clauses = record { n = c .before .zero .ensures i }; literals = record { n = c .zero2 .ensures i } }

@@ -1,24 +1,16 @@
--- The code's totals and rows, as the sizes and rows of the rules.
+-- The code's totals, as the sizes of the rules.
 -- Assumes nothing: these are definitions.
 use mathlib.Core.Bool.{cond}
 use Prim.Native.Nat.{ℕ}
 use lib.Dec.{ltb}
-use Rattle.clausal.specs.Clauses as algebra
 use Rattle.clausal.specs.Totals.{Size, clauseCeiling, literalCeiling}
-use Rattle.totals.specs.declared.rows.Row.{Row}
-use Rattle.totals.specs.declared.total.Total.{Total}
+use Rattle.capped.specs.declared.total.Total.{Total}
 
 abbrev pub sized : Total → Size
 sized t = record { clauses = t .clauses .n; literals = t .literals .n }
 
 abbrev pub asTotal : Size → Total
 asTotal x = record { clauses = record { n = x .clauses }; literals = record { n = x .literals } }
-
-abbrev pub rowed : Row → algebra.Row Size
-rowed r = record { P = sized (r .p); N = sized (r .n) }
-
-abbrev pub asRow : algebra.Row Size → Row
-asRow r = record { p = asTotal (r .P); n = asTotal (r .N) }
 
 -- a literal total that is stated only where its clause total is below the ceiling
 abbrev pub statedAs : ℕ → ℕ → Total

@@ -1,7 +1,7 @@
--- `totals::total::Total::unit` meets its contract: one clause, one literal. Assumes nothing.
+-- `capped::total::Total::unit` meets its contract: one clause, one literal. Assumes nothing.
 use borrow.Author.Needs.{needs}
-use Rattle.totals.proofs.total.Total.unit.Statement.{statement}
-use Rattle.totals.proofs.total.Total.unit.Tie as tie
+use Rattle.capped.proofs.total.Total.unit.Statement.{statement}
+use Rattle.capped.proofs.total.Total.unit.Tie as tie
 
 returns : tie.Need-returns
 returns c = λ i. record { clauses = record { n = c .before .one .ensures i }; literals = record { n = c .one2 .ensures i } }

@@ -1,10 +1,10 @@
--- `totals::total::product` meets its contract: a product of two 32-bit numbers fits 64 bits. Assumes nothing.
+-- `capped::total::product` meets its contract: a product of two 32-bit numbers fits 64 bits. Assumes nothing.
 use Prim.Native.Nat.{_≤_}
 use native.Mathlib.Nat.{mul-le-mul}
 use native.Mathlib.Omega.{arith}
 use borrow.Author.Needs.{needs}
-use Rattle.totals.proofs.total.product.Statement.{statement}
-use Rattle.totals.proofs.total.product.Tie as tie
+use Rattle.capped.proofs.total.product.Statement.{statement}
+use Rattle.capped.proofs.total.product.Tie as tie
 
 fits : tie.Need-mul-result
 fits c =

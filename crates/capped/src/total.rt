@@ -3,7 +3,7 @@ ghost use mathlib.Core.Path.{_≡_};
 ghost use Prim.Native.Nat.{_+_, _*_};
 ghost use Rattle.laws.specs.Numbers.{cap};
 ghost use Rattle.clausal.specs.Totals.{clauseCeiling, literalCeiling, capped};
-ghost use Rattle.totals.specs.Inner.Sized.{sized, asTotal, statedAs};
+ghost use Rattle.capped.specs.Inner.Sized.{sized, asTotal, statedAs};
 
 // The whole product of two numbers.
 fn product(a: u32, b: u32) -> u64

@@ -1,7 +1,7 @@
--- `totals::total::Total::empty` meets its contract: one clause, no literal. Assumes nothing.
+-- `capped::total::Total::empty` meets its contract: one clause, no literal. Assumes nothing.
 use borrow.Author.Needs.{needs}
-use Rattle.totals.proofs.total.Total.empty.Statement.{statement}
-use Rattle.totals.proofs.total.Total.empty.Tie as tie
+use Rattle.capped.proofs.total.Total.empty.Statement.{statement}
+use Rattle.capped.proofs.total.Total.empty.Tie as tie
 
 returns : tie.Need-returns
 returns c = λ i. record { clauses = record { n = c .before .one .ensures i }; literals = record { n = c .zero .ensures i } }

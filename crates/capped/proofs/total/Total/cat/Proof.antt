@@ -1,9 +1,9 @@
--- `totals::total::Total::cat` meets its contract: the sums, read at the ceilings. Assumes nothing.
+-- `capped::total::Total::cat` meets its contract: the sums, read at the ceilings. Assumes nothing.
 use mathlib.Core.Path.{_∙_}
 use borrow.Author.Needs.{needs}
-use Rattle.totals.proofs.Laws.Stated.{stated-shown}
-use Rattle.totals.proofs.total.Total.cat.Statement.{statement}
-use Rattle.totals.proofs.total.Total.cat.Tie as tie
+use Rattle.capped.proofs.Laws.Stated.{stated-shown}
+use Rattle.capped.proofs.total.Total.cat.Statement.{statement}
+use Rattle.capped.proofs.total.Total.cat.Tie as tie
 
 returns : tie.Need-returns
 returns c = c .stated .ensures ∙ stated-shown _ _ _ _ (c .before .before .add .ensures) (c .before .add2 .ensures)

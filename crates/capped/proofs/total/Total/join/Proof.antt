@@ -1,14 +1,14 @@
--- `totals::total::Total::join` meets its contract: the products, read at the ceilings. Assumes nothing.
+-- `capped::total::Total::join` meets its contract: the products, read at the ceilings. Assumes nothing.
 use mathlib.Core.Path.{_≡_, ap, _∙_}
 use Prim.Native.Nat.{ℕ, _+_, _*_}
 use native.Mathlib.Nat.{mul-comm}
 use borrow.Author.Needs.{needs}
 use Rattle.laws.specs.Numbers.{cap}
 use Rattle.clausal.specs.Totals.{Size, sizes, literalCeiling}
-use Rattle.totals.specs.Inner.Sized.{sized}
-use Rattle.totals.proofs.Laws.Stated.{stated-shown}
-use Rattle.totals.proofs.total.Total.join.Statement.{statement}
-use Rattle.totals.proofs.total.Total.join.Tie as tie
+use Rattle.capped.specs.Inner.Sized.{sized}
+use Rattle.capped.proofs.Laws.Stated.{stated-shown}
+use Rattle.capped.proofs.total.Total.join.Statement.{statement}
+use Rattle.capped.proofs.total.Total.join.Tie as tie
 
 returns : tie.Need-returns
 returns c =

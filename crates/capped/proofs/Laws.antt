@@ -1,0 +1,2 @@
+-- Laws of totals at their ceilings.
+pub mod Stated

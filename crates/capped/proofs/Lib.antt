@@ -1,0 +1,3 @@
+-- Laws and theorems of totals at their ceilings.
+pub mod Laws
+pub mod NoChoice

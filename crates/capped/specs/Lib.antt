@@ -1,0 +1,2 @@
+-- What the inner contracts cite.
+pub mod Inner

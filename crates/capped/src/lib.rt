@@ -1,0 +1,2 @@
+// Clause and literal totals of lists, read at their ceilings.
+pub mod total;
