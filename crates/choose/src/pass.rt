@@ -13,12 +13,12 @@ ghost use Rattle.clausal.specs.Calls.{told, chosenUnder, chosenBy};
 ghost use Rattle.choose.specs.Inner.Visits.{Choosable, Passable, Visitable, Attempted, Visited};
 use answer::Answer;
 use answer::is_refusal;
+use capped::total::ClauseTotal;
 use formula::mark::mark_all;
 use formula::node::MOST_NODES;
 use formula::node::NODE_BYTES;
 use formula::set::may_rename;
 use totals::rows::fill;
-use capped::total::ClauseTotal;
 use totals::trial::trial;
 use totals::whole::whole;
 

@@ -7,17 +7,17 @@ ghost use Rattle.clausal.specs.Clauses.{renaming, variablesOf};
 ghost use Rattle.capped.specs.Inner.Sized.{sized};
 ghost use Rattle.clausal.specs.Calls.{takenChecked, convertedUnder, converted, convertedAfter};
 ghost use Rattle.convert.specs.Inner.Fitted.{fitted, writtenUnder, outputBytes, Convertible, Settled, Measured, Fitting};
-use parts::helper::name_all;
-use parts::part::write_all;
 use answer::Answer;
 use answer::is_refusal;
-use formula::mark::mark_all;
-use formula::node::MOST_NODES;
-use formula::node::MOST_OPTIONS;
-use totals::rows::fill;
 use capped::total::ClauseTotal;
 use capped::total::LiteralTotal;
 use capped::total::Total;
+use formula::mark::mark_all;
+use formula::node::MOST_NODES;
+use formula::node::MOST_OPTIONS;
+use parts::helper::name_all;
+use parts::part::write_all;
+use totals::rows::fill;
 use totals::whole::whole;
 
 // Whether totals are below their ceilings, and a buffer has room for the output.

@@ -10,13 +10,13 @@ ghost use Rattle.walk.specs.Inner.Lists.{namesIn, ownList, shownAll};
 ghost use Rattle.parts.specs.Inner.Parts.{helperLiteral, around, half, definedBy, definedTo, allParts, ClauseDue, PartDue};
 ghost use Rattle.parts.specs.Inner.Parts.{DefinitionDue, DefinitionsDue, OutputDue};
 ghost use Rattle.walk.specs.Inner.Written.{Fits, Put};
-use walk::clause::write_own;
-use walk::count::own_count;
 use answer::put;
 use clausebytes::word::word;
 use formula::mark::halves_of;
 use formula::mark::read;
 use formula::node::NODE_BYTES;
+use walk::clause::write_own;
+use walk::count::own_count;
 
 // Writes the literal of a helper, where it stands here and there is one, and returns the next place.
 fn put_helper(out: &mut &mut [u8], at: usize, here: bool, plain: bool, helper: u32) -> usize

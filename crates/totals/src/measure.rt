@@ -9,10 +9,10 @@ ghost use Rattle.clausal.specs.Totals.{totals};
 ghost use Rattle.capped.specs.Inner.Sized.{asTotal};
 ghost use Rattle.clausal.specs.Calls.{measured, measuredUnder};
 use crate::rows::fill;
-use capped::total::Total;
 use crate::whole::whole;
 use answer::Answer;
 use answer::is_refusal;
+use capped::total::Total;
 use formula::mark::mark_all;
 use formula::node::MOST_NODES;
 

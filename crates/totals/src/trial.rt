@@ -2,8 +2,8 @@
 ghost use Rattle.formula.specs.Tables.{nodesOf};
 ghost use Rattle.totals.specs.Inner.Sums.{Triable, Tried};
 use crate::rows::fill;
-use capped::total::ClauseTotal;
 use crate::whole::whole;
+use capped::total::ClauseTotal;
 
 // Sets the byte of node `i`, and gives the clause total under the set then; no node below `from` is renamed in it. The
 // rows of the nodes up to `i` stand as they were: only those above it see node `i`.
