@@ -1,24 +1,22 @@
--- The definitions on small tables: a right one, and one for each refusal; marks; sets.
+-- The definitions on small tables: a right one, and one for each refusal; truth.
 -- Assumes nothing.
 use mathlib.Core.Path.{_≡_, refl}
 use mathlib.Core.Bool.{Bool, true, false}
-use mathlib.Core.List.{List, [], _∷_, _++_, map}
+use mathlib.Core.List.{List, [], _∷_, _++_}
 use Prim.Native.Nat.{ℕ}
 use lib.Dec.{eqb}
 use Rattle.laws.specs.Lists.{firstFrom, upTo}
 use Rattle.formula.specs.Tables.{nodesOf}
-use Rattle.formula.specs.Checks.{checked, setChecked}
-use Rattle.formula.specs.Marks.{downFrom, marksOf}
-use Rattle.formula.specs.Inner.Held.{byteOf}
+use Rattle.formula.specs.Checks.{checked}
 use Rattle.formula.specs.Truths.{formulaTrue}
-use Rattle.answer.specs.declared.Answer.the-variants.{Accepted, TableLength, Options, Record, Set}
+use Rattle.answer.specs.declared.Answer.the-variants.{Accepted, TableLength, Options, Record}
 
 -- the record of a node whose fields are below 256
 abbrev node : ℕ → ℕ → ℕ → List ℕ
 node kind a b = kind ∷ a ∷ 0 ∷ b ∷ 0 ∷ []
 
 -- not (s1 and s2) implies (s1 equivalent s2), and an or that the root does not reach
-abbrev guard : List ℕ
+abbrev pub guard : List ℕ
 guard = node 2 1 0 ++ node 2 2 0 ++ node 4 0 1 ++ node 3 2 0 ++ node 5 0 1 ++ node 7 0 1 ++ node 6 3 5
 
 accepted : checked guard 2 ≡ Accepted 0 0
@@ -53,32 +51,6 @@ own-child = refl
 unused-field : checked (guard ++ node 3 0 1) 2 ≡ Record 3 7
 unfolding firstFrom upTo
 unused-field = refl
-
--- 1 is positive, 2 negative, 3 both
-marks-of-guard : map byteOf (marksOf (nodesOf guard)) ≡ 3 ∷ 3 ∷ 1 ∷ 2 ∷ 0 ∷ 1 ∷ 1 ∷ []
-unfolding firstFrom upTo downFrom
-marks-of-guard = refl
-
-set-right : setChecked (nodesOf guard) (0 ∷ 0 ∷ 1 ∷ 1 ∷ 0 ∷ 1 ∷ 0 ∷ []) ≡ Accepted 0 0
-unfolding firstFrom upTo downFrom
-set-right = refl
-
--- of the wrong bytes the lowest counts: a symbol, a node that is not reached, the root, a byte over 1
-set-wrong : setChecked (nodesOf guard) (0 ∷ 0 ∷ 1 ∷ 0 ∷ 1 ∷ 2 ∷ 1 ∷ []) ≡ Set 4
-unfolding firstFrom upTo downFrom
-set-wrong = refl
-
-set-symbol : setChecked (nodesOf guard) (0 ∷ 1 ∷ 0 ∷ 0 ∷ 0 ∷ 2 ∷ 1 ∷ []) ≡ Set 1
-unfolding firstFrom upTo downFrom
-set-symbol = refl
-
-set-root : setChecked (nodesOf guard) (0 ∷ 0 ∷ 0 ∷ 0 ∷ 0 ∷ 0 ∷ 1 ∷ []) ≡ Set 6
-unfolding firstFrom upTo downFrom
-set-root = refl
-
-set-short : setChecked (nodesOf guard) (0 ∷ 0 ∷ []) ≡ Set 7
-unfolding firstFrom upTo downFrom
-set-short = refl
 
 -- the guard holds where both options are on, and fails where only one is
 true-in-both : formulaTrue (λ s. true) (nodesOf guard) ≡ true

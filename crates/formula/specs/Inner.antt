@@ -1,3 +1,2 @@
 -- What only the contracts of inner functions, and laws, cite.
-pub mod Held
 pub mod Right

@@ -1,7 +1,5 @@
 -- The formula table, in the order of the rules. What only inner contracts cite stands in Inner.
 pub mod Tables
-pub mod Paths
-pub mod Marks
 pub mod Checks
 pub mod Truths
 pub mod Inner

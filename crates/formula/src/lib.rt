@@ -1,5 +1,3 @@
-// The formula table: its nodes, its check, polarity marks, and sets of renamed nodes.
-pub mod mark;
+// The formula table: its nodes and its check.
 pub mod node;
-pub mod set;
 pub mod table;

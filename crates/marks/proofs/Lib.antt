@@ -1,0 +1,4 @@
+-- Laws and theorems of marks and sets.
+pub mod Cases
+pub mod Laws
+pub mod NoChoice

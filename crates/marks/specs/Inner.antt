@@ -1,0 +1,2 @@
+-- What only the contracts of inner functions, and laws, cite.
+pub mod Held
