@@ -9,7 +9,7 @@ use native.Mathlib.Omega.{arith}
 use lib.ListN.{length, set, replicate}
 use borrow.Author.Tests.{lt-ltb}
 use Rattle.answer.specs.declared.Answer.the-variants.{Accepted}
-use Rattle.formula.specs.Checks.{renamed, setChecked}
+use Rattle.marks.specs.Sets.{renamed, setChecked}
 use Rattle.formula.specs.declared.node.Node.{Node}
 use Rattle.clausal.specs.Totals.{Choice, totalUnder, visit, visitsFrom, nothing, choose}
 use Rattle.clausal.specs.Clauses.{Renaming, renaming, under}

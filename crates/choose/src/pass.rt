@@ -14,10 +14,10 @@ ghost use Rattle.choose.specs.Inner.Visits.{Choosable, Passable, Visitab
 use answer::Answer;
 use answer::is_refusal;
 use capped::total::ClauseTotal;
-use formula::mark::mark_all;
 use formula::node::MOST_NODES;
 use formula::node::NODE_BYTES;
-use formula::set::may_rename;
+use marks::mark::mark_all;
+use marks::set::may_rename;
 use totals::rows::fill;
 use totals::trial::trial;
 use totals::whole::whole;

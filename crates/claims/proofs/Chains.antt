@@ -10,7 +10,7 @@ use lib.ListN.{length}
 use borrow.Author.Tests.{lt-ltb, le-ltb}
 use Rattle.laws.specs.Lists.{Every, none, more}
 use Rattle.laws.proofs.Every.{and-both, and-left, and-right}
-use Rattle.formula.specs.Checks.{renamed}
+use Rattle.marks.specs.Sets.{renamed}
 use Rattle.formula.specs.Truths.{formulaTrue}
 use Rattle.clausal.specs.Clauses.{helperOf, variablesOf}
 use Rattle.clausal.specs.Meanings.{satisfies, Extends}

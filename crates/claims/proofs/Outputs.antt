@@ -12,10 +12,11 @@ use Rattle.answer.specs.Answers.{refuses, Wrote, afterwards, stored}
 use Rattle.answer.specs.declared.Answer.the-variants as answer
 use Rattle.answer.specs.declared.Answer.the-variants.{Accepted, ClauseBytes}
 use Rattle.answer.proofs.Laws.Order.{Kept, kept-afterwards, kept-stored, accepted-afterwards}
-use Rattle.formula.specs.Checks.{checked, setChecked}
+use Rattle.formula.specs.Checks.{checked}
+use Rattle.marks.specs.Sets.{setChecked}
 use Rattle.formula.specs.Tables.{mostOptions, nodesOf}
 use Rattle.formula.specs.declared.node.Node.{Node}
-use Rattle.formula.proofs.Laws.Sets.{set-accepted}
+use Rattle.marks.proofs.Laws.Sets.{set-accepted}
 use Rattle.formula.proofs.Laws.WellFormed.{checked-accepted}
 use Rattle.clausal.specs.Totals.{Choice, choose, totals, sizeOf}
 use Rattle.clausal.specs.Clauses.{Clause, clausesBytes, Renaming, renaming, variablesOf}

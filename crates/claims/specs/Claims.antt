@@ -11,7 +11,8 @@ use Rattle.laws.specs.Lists.{Every}
 use Rattle.answer.specs.Answers.{toldOf, bytesOf}
 use Rattle.answer.specs.declared.Answer.{Answer}
 use Rattle.answer.specs.declared.Answer.the-variants.{Accepted}
-use Rattle.formula.specs.Checks.{checked, renamed}
+use Rattle.formula.specs.Checks.{checked}
+use Rattle.marks.specs.Sets.{renamed}
 use Rattle.formula.specs.Tables.{nodeIn}
 use Rattle.formula.specs.Truths.{formulaTrue}
 use Rattle.formula.specs.declared.node.Kind.the-variants.{Symbol}

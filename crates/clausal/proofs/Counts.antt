@@ -10,7 +10,7 @@ use lib.Dec.{eqb}
 use lib.ListN.{length}
 use Rattle.formula.specs.Tables.{nodeIn}
 use Rattle.formula.specs.Inner.Right.{WellFormed}
-use Rattle.formula.specs.Checks.{renamed}
+use Rattle.marks.specs.Sets.{renamed}
 use Rattle.clausal.specs.Clauses.{Algebra, Row, unitRow, clauses, Renaming, nameOf, rowOf}
 use Rattle.clausal.specs.Totals.{Size, sizes}
 use Rattle.clausal.proofs.Related.{Keeps, Under, both, keeps-of-map, under-by}

@@ -4,7 +4,7 @@ use mathlib.Core.List.{List, [], _∷_, _++_}
 use Prim.Native.Nat.{ℕ}
 use lib.Dec.{T}
 use Rattle.laws.specs.Lists.{firstFrom, upTo}
-use Rattle.formula.specs.Marks.{downFrom}
+use Rattle.marks.specs.Marks.{downFrom}
 use Rattle.clausal.specs.Totals.{visitsFrom}
 use Rattle.clausal.specs.Clauses.{renamedBelow}
 use Rattle.clausal.specs.Output.{definitions}

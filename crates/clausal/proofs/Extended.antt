@@ -10,7 +10,7 @@ use lib.Dec.{eqb}
 use lib.ListN.{length}
 use borrow.Author.Tests.{eqb-true, eqb-false, eq-eqb}
 use Rattle.formula.specs.Truths.{truthOf}
-use Rattle.formula.specs.Checks.{renamed}
+use Rattle.marks.specs.Sets.{renamed}
 use Rattle.clausal.specs.Clauses.{helperOf, Renaming}
 use Rattle.clausal.specs.Meanings.{Extends}
 use Rattle.clausal.specs.Inner.Extended.{withHelpers, extended}

@@ -12,12 +12,12 @@ use borrow.Author.Tests.{eqb-true, eqb-false}
 use Rattle.laws.specs.Lists.{Every, none, more}
 use Rattle.laws.proofs.Every.{every-append, every-left, every-right, every-cond, every-taken, every-head, every-tail, true-of, and-both}
 use Rattle.laws.proofs.Every.{and-left, and-right}
-use Rattle.formula.specs.Marks.{markOf, halvesOf}
-use Rattle.formula.specs.Checks.{renamed}
+use Rattle.marks.specs.Marks.{markOf, halvesOf}
+use Rattle.marks.specs.Sets.{renamed}
 use Rattle.clausal.specs.Clauses.{helperOf, Renaming, nameOf, rowOf}
 use Rattle.clausal.specs.Output.{Part, downPart, upPart, definition, definitions, partsOf, gather, wholeOf}
 use Rattle.clausal.specs.Inner.Extended.{truths}
-use Rattle.formula.specs.declared.mark.Halves.{Halves}
+use Rattle.marks.specs.declared.mark.Halves.{Halves}
 use Rattle.formula.specs.declared.node.Node.{Node}
 
 module _ (ρ : ℕ → Bool) (u : Renaming) (ns : List Node) where

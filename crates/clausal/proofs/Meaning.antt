@@ -10,13 +10,14 @@ use native.Mathlib.Omega.{arith}
 use lib.Dec.{T}
 use lib.ListN.{length}
 use Rattle.answer.specs.declared.Answer.the-variants.{Accepted}
-use Rattle.formula.specs.Checks.{checked, renamed}
-use Rattle.formula.specs.Marks.{toA, toB, markOf}
+use Rattle.formula.specs.Checks.{checked}
+use Rattle.marks.specs.Sets.{renamed}
+use Rattle.marks.specs.Marks.{toA, toB, markOf}
 use Rattle.formula.specs.Tables.{nodesOf, nodeIn, known}
-use Rattle.formula.specs.Paths.{has}
+use Rattle.marks.specs.Paths.{has}
 use Rattle.formula.specs.Inner.Right.{WellFormed}
 use Rattle.formula.specs.Truths.{truthOf, formulaTrue}
-use Rattle.formula.proofs.Laws.Polarity.{passed-a, passed-b, root-positive}
+use Rattle.marks.proofs.Laws.Polarity.{passed-a, passed-b, root-positive}
 use Rattle.formula.proofs.Laws.WellFormed.{accepted-well-formed}
 use Rattle.clausal.specs.Clauses.{Row, helperOf, Renaming, nameOf, rowOf}
 use Rattle.clausal.specs.Output.{outputOf}
@@ -28,7 +29,7 @@ use Rattle.clausal.proofs.Known.{accepted-known}
 use Rattle.clausal.proofs.Related.{Keeps, Under, both, under-by}
 use Rattle.clausal.proofs.Rows.{ruleAt, seenOf, a-below, b-below, row-at, seen-plain, seen-renamed}
 use Rattle.clausal.proofs.Truths.{satisfies-output, signed, signed-unit, truth-at}
-use Rattle.formula.specs.declared.mark.Mark.{Mark}
+use Rattle.marks.specs.declared.mark.Mark.{Mark}
 use Rattle.formula.specs.declared.node.Node.{Node}
 
 -- a list of nodes under a set: its rows in the row τ, seen as children or not, and its truths in the row ρ

@@ -15,7 +15,8 @@ use Rattle.answer.specs.declared.Answer.{Answer}
 use Rattle.answer.specs.declared.Answer.the-variants.{Accepted, Set}
 use Rattle.laws.specs.Lists.{Every, none, more}
 use Rattle.laws.proofs.Every.{every-append}
-use Rattle.formula.specs.Checks.{checked, setChecked, renamed}
+use Rattle.formula.specs.Checks.{checked}
+use Rattle.marks.specs.Sets.{setChecked, renamed}
 use Rattle.formula.specs.Tables.{nodesOf, nodeIn}
 use Rattle.formula.proofs.Laws.WellFormed.{accepted-well-formed}
 use Rattle.clausal.specs.Clauses.{Algebra, joinAll, clauses, helperOf, variablesOf, Renaming, Literal, Clause}

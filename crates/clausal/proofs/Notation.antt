@@ -6,7 +6,8 @@ use Prim.Native.Nat.{ℕ}
 use lib.Dec.{eqb}
 use lib.ListN.{length, take, replicate}
 use Rattle.answer.specs.Answers.{toldOf}
-use Rattle.formula.specs.Checks.{checked, setChecked}
+use Rattle.formula.specs.Checks.{checked}
+use Rattle.marks.specs.Sets.{setChecked}
 use Rattle.formula.specs.Tables.{nodeRecord, nodesOf}
 use Rattle.clausal.specs.Totals.{choose, Size, sizeOf, trueTotals, totals}
 use Rattle.clausal.specs.Clauses.{variablesOf, renaming, Literal, Clause, clausesBytes}

@@ -7,9 +7,9 @@ use Prim.Native.Nat.{ℕ, zero, suc, _-_}
 use lib.Dec.{eqb}
 use lib.ListN.{length, getD}
 use Rattle.laws.specs.Lists.{upTo}
-use Rattle.formula.specs.Marks.{markOf, halvesOf}
+use Rattle.marks.specs.Marks.{markOf, halvesOf}
 use Rattle.formula.specs.Tables.{nodeIn}
-use Rattle.formula.specs.Checks.{renamed}
+use Rattle.marks.specs.Sets.{renamed}
 use Rattle.clausal.specs.Clauses.{Algebra, Row, unitRow, noRow, rowBy, helperOf, Renaming, renaming, nameOf, seen, rowFrom, rowOf}
 use Rattle.clausal.specs.Output.{Part, downPart, upPart, definition, definitions, gather, wholeOf}
 use Rattle.clausal.specs.Totals.{totals, trueTotals, capped, sizes}

@@ -9,15 +9,15 @@ use native.Mathlib.Omega.{arith}
 use lib.Dec.{T, eqb}
 use lib.ListN.{length, getD}
 use Rattle.laws.proofs.Upward.{Each, none, more, each-at, each-upTo}
-use Rattle.formula.specs.Marks.{toA, toB}
+use Rattle.marks.specs.Marks.{toA, toB}
 use Rattle.formula.specs.Tables.{nodeIn}
-use Rattle.formula.specs.Paths.{has}
-use Rattle.formula.specs.Checks.{renamed}
-use Rattle.formula.proofs.Laws.Marks.{doubled-has}
+use Rattle.marks.specs.Paths.{has}
+use Rattle.marks.specs.Sets.{renamed}
+use Rattle.marks.proofs.Laws.Marks.{doubled-has}
 use Rattle.clausal.specs.Clauses.{Algebra, Row, unitRow, noRow, rowBy, Renaming, helperOf, nameOf, seen, rowFrom, rowsOf, rowOf}
 use Rattle.clausal.specs.Meanings.{Origin, option, helper}
 use Rattle.clausal.specs.Output.{Part, downPart, upPart, definition, definitions, partsOf, gather, wholeOf}
-use Rattle.formula.specs.declared.mark.Mark.{Mark}
+use Rattle.marks.specs.declared.mark.Mark.{Mark}
 use Rattle.formula.specs.declared.node.Kind.{Kind}
 use Rattle.formula.specs.declared.node.Kind.the-variants.{False, True, Symbol, Not, And, Or, Implies, Equivalent, Unknown}
 use Rattle.formula.specs.declared.node.Node.{Node}

@@ -10,7 +10,7 @@ use lib.Dec.{eqb}
 use lib.ListN.{length, set}
 use lib.Seq.{getD-set-same, getD-set-other}
 use borrow.Author.Tests.{eqb-true, eqb-false}
-use Rattle.formula.specs.Checks.{renamed}
+use Rattle.marks.specs.Sets.{renamed}
 use Rattle.clausal.specs.Clauses.{renamedBelow}
 use Rattle.clausal.proofs.Helpers.{renamed-inside}
 

@@ -11,7 +11,7 @@ use lib.ListN.{length, getD, set}
 use Rattle.laws.specs.Lists.{grow, upTo}
 use Rattle.formula.specs.Inner.Right.{Below}
 use Rattle.formula.specs.Tables.{nodeIn}
-use Rattle.formula.specs.Checks.{renamed}
+use Rattle.marks.specs.Sets.{renamed}
 use Rattle.clausal.specs.Clauses.{Algebra, Row, unitRow, noRow, Renaming, renamedBelow, nameOf, under, rowFrom, rowOf}
 use Rattle.clausal.proofs.Renamed.{below-same, renamed-set-other}
 use Rattle.clausal.proofs.Rows.{rule-same, row-past, getD-rows}

@@ -3,11 +3,11 @@
 use Rattle.laws.specs.Lists.{upTo}
 use Rattle.laws.proofs.Upward.{length-upTo, take-upTo, getD-upTo}
 use Rattle.formula.specs.Inner.Right.{Below}
-use Rattle.formula.specs.Marks.{unmarked, toA, toB, markIn, passOn}
+use Rattle.marks.specs.Marks.{unmarked, toA, toB, markIn, passOn}
 use Rattle.formula.specs.Tables.{nodeIn}
-use Rattle.formula.specs.Paths.{has}
-use Rattle.formula.specs.Checks.{renamed}
-use Rattle.formula.proofs.Laws.Marks.{unmarked-has, Passed, passed}
+use Rattle.marks.specs.Paths.{has}
+use Rattle.marks.specs.Sets.{renamed}
+use Rattle.marks.proofs.Laws.Marks.{unmarked-has, Passed, passed}
 use Rattle.clausal.specs.Clauses.{Algebra, Row, unitRow, noRow, rowBy, seen, rowFrom, rowsOf, rowOf, Renaming, helperOf, nameOf}
 use Rattle.clausal.proofs.Helpers.{helper-some, name-renamed, name-plain}
 use Rattle.clausal.proofs.Related.{Keeps, Under, both, under-by}
@@ -20,7 +20,7 @@ use native.Mathlib.Omega.{arith}
 use lib.Dec.{T, eqb}
 use lib.ListN.{length, getD, take, replicate, length-replicate, List·getD-eq-default}
 use lib.Seq.{getD-take}
-use Rattle.formula.specs.declared.mark.Mark.{Mark}
+use Rattle.marks.specs.declared.mark.Mark.{Mark}
 use Rattle.formula.specs.declared.node.Node.{Node}
 
 -- what a node passes on goes to children below it: in a list of as many nodes as stand below it, it has to show

@@ -9,8 +9,9 @@ use Prim.Native.Nat.{ℕ, zero, suc, _+_, _*_}
 use lib.Dec.{T, eqb}
 use lib.ListN.{length}
 use Rattle.laws.specs.Lists.{firstFrom, upTo}
-use Rattle.formula.specs.Checks.{checked, setChecked}
-use Rattle.formula.specs.Marks.{downFrom}
+use Rattle.formula.specs.Checks.{checked}
+use Rattle.marks.specs.Sets.{setChecked}
+use Rattle.marks.specs.Marks.{downFrom}
 use Rattle.formula.specs.Tables.{nodesOf}
 use Rattle.clausal.specs.Clauses.{renamedBelow, renaming}
 use Rattle.clausal.specs.Output.{definitions, outputOf}

@@ -5,7 +5,8 @@ use Prim.Native.Nat.{ℕ}
 use Rattle.answer.specs.Answers.{after, Wrote, afterwards, stored}
 use Rattle.answer.specs.declared.Answer.{Answer}
 use Rattle.answer.specs.declared.Answer.the-variants.{Accepted, Set, Options, Clauses, Literals}
-use Rattle.formula.specs.Checks.{checked, setChecked}
+use Rattle.formula.specs.Checks.{checked}
+use Rattle.marks.specs.Sets.{setChecked}
 use Rattle.formula.specs.Tables.{nodesOf, mostOptions}
 use Rattle.formula.specs.declared.node.Node.{Node}
 use Rattle.clausal.specs.Clauses.{Renaming, renaming, variablesOf, clausesBytes}

@@ -5,7 +5,7 @@ use mathlib.Core.List.{List, [], _∷_}
 use mathlib.Core.Path.{_≡_}
 use Prim.Native.Nat.{ℕ, _<_, _≤_}
 use lib.ListN.{length}
-use Rattle.formula.specs.Checks.{renamed}
+use Rattle.marks.specs.Sets.{renamed}
 use Rattle.formula.specs.Truths.{truthOf}
 use Rattle.clausal.specs.Clauses.{Literal, Clause, Renaming, helperOf}
 use Rattle.formula.specs.declared.node.Node.{Node}

@@ -4,8 +4,8 @@ use mathlib.Core.Bool.{true, false, cond}
 use mathlib.Core.List.{List, [], _∷_, _++_}
 use Prim.Native.Nat.{ℕ, zero, suc, _-_}
 use lib.ListN.{length}
-use Rattle.formula.specs.Marks.{markOf, halvesOf}
-use Rattle.formula.specs.Checks.{renamed}
+use Rattle.marks.specs.Marks.{markOf, halvesOf}
+use Rattle.marks.specs.Sets.{renamed}
 use Rattle.clausal.specs.Clauses.{Algebra, clauses, Renaming, helperOf, nameOf, Clause, rowOf}
 use Rattle.formula.specs.declared.node.Node.{Node}
 

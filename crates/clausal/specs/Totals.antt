@@ -9,7 +9,7 @@ use Rattle.laws.specs.Numbers.{cap}
 use Rattle.clausal.specs.Clauses.{Algebra, Clause, Renaming, under}
 use Rattle.clausal.specs.Output.{wholeOf}
 use Rattle.formula.specs.declared.node.Node.{Node}
-use Rattle.formula.specs.Checks.{mayRename}
+use Rattle.marks.specs.Sets.{mayRename}
 
 -- R7.1
 pub record Size : Type 0 where

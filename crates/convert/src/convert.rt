@@ -12,9 +12,9 @@ use answer::is_refusal;
 use capped::total::ClauseTotal;
 use capped::total::LiteralTotal;
 use capped::total::Total;
-use formula::mark::mark_all;
 use formula::node::MOST_NODES;
 use formula::node::MOST_OPTIONS;
+use marks::mark::mark_all;
 use parts::helper::name_all;
 use parts::part::write_all;
 use totals::rows::fill;
@@ -116,7 +116,7 @@ fn convert_under(table: &[u8], taken: u32, set: &[u8], out: &mut [u8]) -> Answer
 {
     let mut marks = [0u8; MOST_NODES];
     mark_all(table, &mut marks);
-    let right = formula::set::check(table, &marks, set);
+    let right = marks::set::check(table, &marks, set);
     if is_refusal(right) {
         return right;
     }

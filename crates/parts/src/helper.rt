@@ -4,7 +4,7 @@ ghost use mathlib.Core.Path.{_≡_};
 ghost use lib.ListN.{length};
 ghost use Rattle.clausal.specs.Clauses.{renaming, variablesOf};
 ghost use Rattle.parts.specs.Inner.Helpers.{helpersOf, Unnamed};
-use formula::set::is_renamed;
+use marks::set::is_renamed;
 
 // A number where a condition holds, else 0.
 fn where_so(so: bool, number: u32) -> u32

@@ -12,9 +12,9 @@ ghost use Rattle.parts.specs.Inner.Parts.{DefinitionDue, DefinitionsDue,
 ghost use Rattle.walk.specs.Inner.Written.{Fits, Put};
 use answer::put;
 use clausebytes::word::word;
-use formula::mark::halves_of;
-use formula::mark::read;
 use formula::node::NODE_BYTES;
+use marks::mark::halves_of;
+use marks::mark::read;
 use walk::clause::write_own;
 use walk::count::own_count;
 

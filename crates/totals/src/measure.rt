@@ -1,7 +1,7 @@
 // Measuring: the totals of a formula under a set, so that a host can size its buffer.
 ghost use mathlib.Core.Path.{_≡_};
 ghost use lib.ListN.{length};
-ghost use Rattle.formula.specs.Inner.Held.{Marked};
+ghost use Rattle.marks.specs.Inner.Held.{Marked};
 ghost use Rattle.formula.specs.Inner.Right.{RightLength};
 ghost use Rattle.formula.specs.Tables.{nodesOf};
 ghost use Rattle.clausal.specs.Clauses.{renaming};
@@ -13,8 +13,8 @@ use crate::whole::whole;
 use answer::Answer;
 use answer::is_refusal;
 use capped::total::Total;
-use formula::mark::mark_all;
 use formula::node::MOST_NODES;
+use marks::mark::mark_all;
 
 // The totals of a table under a set; `marks` are the marks of its nodes.
 fn totals_under(table: &[u8], marks: &[u8; 1024], set: &[u8]) -> Total
@@ -34,7 +34,7 @@ fn measure_under(table: &[u8], set: &[u8]) -> Answer
 {
     let mut marks = [0u8; MOST_NODES];
     mark_all(table, &mut marks);
-    let right = formula::set::check(table, &marks, set);
+    let right = marks::set::check(table, &marks, set);
     if is_refusal(right) {
         return right;
     }

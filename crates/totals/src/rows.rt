@@ -13,7 +13,7 @@ use formula::node::Kind;
 use formula::node::NODE_BYTES;
 use formula::node::Node;
 use formula::node::node_at;
-use formula::set::is_renamed;
+use marks::set::is_renamed;
 
 // The totals of P and of N of a node.
 pub struct Row {

@@ -1,9 +1,9 @@
 // The totals of a whole formula under a set: those of its root, then of each definition.
 ghost use mathlib.Core.Path.{_≡_};
 ghost use Prim.Native.Nat.{_<_};
-ghost use Rattle.formula.specs.Inner.Held.{heldAt};
+ghost use Rattle.marks.specs.Inner.Held.{heldAt};
 ghost use Rattle.formula.specs.Tables.{mostNodes, nodesOf};
-ghost use Rattle.formula.specs.Checks.{renamed};
+ghost use Rattle.marks.specs.Sets.{renamed};
 ghost use Rattle.clausal.specs.Clauses.{renaming};
 ghost use Rattle.clausal.specs.Totals.{capped, totals};
 ghost use Rattle.totals.specs.Inner.Columns.{rowIn};
@@ -13,11 +13,11 @@ ghost use Rattle.totals.specs.Inner.Sums.{withPart, withDefinition, with
 use crate::rows::Row;
 use crate::rows::row_at;
 use capped::total::Total;
-use formula::mark::Mark;
-use formula::mark::halves_of;
-use formula::mark::read;
 use formula::node::NODE_BYTES;
-use formula::set::is_renamed;
+use marks::mark::Mark;
+use marks::mark::halves_of;
+use marks::mark::read;
+use marks::set::is_renamed;
 
 // A sum with one more part, where the definition has it.
 fn with_part(has: bool, part: Total, sum: Total) -> Total

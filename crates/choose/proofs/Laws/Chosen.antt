@@ -13,9 +13,9 @@ use borrow.Author.Tests.{eqb-true, eqb-false, ltb-true, eq-eqb, le-ltb}
 use Rattle.answer.specs.declared.Answer.the-variants.{Accepted}
 use Rattle.laws.proofs.Choices.{both}
 use Rattle.laws.proofs.First.{first-fails}
-use Rattle.formula.specs.Checks.{renamed, mayRename, byteRight, firstWrongByte, setChecked}
+use Rattle.marks.specs.Sets.{renamed, mayRename, byteRight, firstWrongByte, setChecked}
 use Rattle.formula.specs.declared.node.Node.{Node}
-use Rattle.formula.proofs.Laws.Sets.{RightSet}
+use Rattle.marks.proofs.Laws.Sets.{RightSet}
 use Rattle.clausal.specs.Totals.{Choice, totalUnder, goesIn, visit, visitsFrom, nothing, choose}
 use Rattle.clausal.specs.Clauses.{Renaming, renamedBelow}
 use Rattle.clausal.proofs.Renamed.{below-none, renamed-set-other, below-set}

@@ -9,7 +9,7 @@ use lib.Dec.{eqb}
 use lib.ListN.{length, getD, set, replicate, length-replicate}
 use Rattle.answer.specs.declared.Answer.the-variants.{Accepted}
 use Rattle.formula.specs.Tables.{nodeCount, nodesOf}
-use Rattle.formula.specs.Checks.{renamed}
+use Rattle.marks.specs.Sets.{renamed}
 use Rattle.formula.specs.declared.node.Node.{Node}
 use Rattle.formula.proofs.Laws.Tables.{length-nodesOf}
 use Rattle.clausal.specs.Totals.{Choice, totalUnder, taken, goesIn, visit, visitsFrom, choose}

@@ -12,7 +12,7 @@ use lib.Seq.{getD-set-other, set-set, set-getD}
 use borrow.Author.Tests.{lt-ltb, le-ltb, ltb-true}
 use Rattle.formula.specs.Inner.Right.{Below}
 use Rattle.formula.specs.Tables.{nodeIn}
-use Rattle.formula.specs.Checks.{renamed, mayRename}
+use Rattle.marks.specs.Sets.{renamed, mayRename}
 use Rattle.formula.specs.declared.node.Node.{Node}
 use Rattle.clausal.specs.Clauses.{Row, Renaming, renaming}
 use Rattle.clausal.specs.Totals.{Choice, totalUnder, falls, taken, goesIn, Size}

@@ -5,7 +5,7 @@ use mathlib.Core.List.{List, []}
 use mathlib.Core.Path.{_≡_}
 use Prim.Native.Nat.{ℕ, _+_, _<_}
 use lib.ListN.{length, getD, replicate}
-use Rattle.formula.specs.Inner.Held.{Marked}
+use Rattle.marks.specs.Inner.Held.{Marked}
 use Rattle.formula.specs.Inner.Right.{RightLength, Below}
 use Rattle.formula.specs.Tables.{mostNodes, nodeCount, nodeIn, nodesOf}
 use Rattle.formula.specs.declared.node.Node.{Node}

@@ -12,7 +12,7 @@ use Rattle.answer.specs.declared.Answer.{Answer}
 use Rattle.answer.specs.declared.Answer.the-variants.{Accepted}
 use Rattle.formula.specs.Tables.{mostNodes, nodeCount, nodesOf}
 use Rattle.formula.specs.declared.node.Node.{Node}
-use Rattle.formula.proofs.Laws.Sets.{RightSet, right-set}
+use Rattle.marks.proofs.Laws.Sets.{RightSet, right-set}
 use Rattle.formula.proofs.Laws.Tables.{length-nodesOf}
 use Rattle.clausal.specs.Clauses.{Clause, clausesBytes, Renaming, renaming, nameOf, variablesOf, rowOf}
 use Rattle.clausal.specs.Output.{outputOf}

@@ -9,10 +9,10 @@ use lib.ListN.{length}
 use Rattle.answer.specs.Answers.{after, refuses, Wrote, afterwards, stored}
 use Rattle.answer.specs.declared.Answer.{Answer}
 use Rattle.answer.specs.declared.Answer.the-variants.{Accepted, Room}
-use Rattle.formula.specs.Inner.Held.{Marked}
+use Rattle.marks.specs.Inner.Held.{Marked}
 use Rattle.formula.specs.Inner.Right.{Right}
 use Rattle.formula.specs.Tables.{mostOptions, nodeCount, nodesOf}
-use Rattle.formula.specs.Checks.{setChecked}
+use Rattle.marks.specs.Sets.{setChecked}
 use Rattle.formula.specs.declared.node.Node.{Node}
 use Rattle.clausal.specs.Clauses.{clausesBytes, Renaming, renaming, variablesOf}
 use Rattle.clausal.specs.Output.{outputOf}

@@ -12,7 +12,7 @@ use Rattle.laws.specs.Lists.{upTo}
 use Rattle.laws.specs.Inner.Stores.{padTo}
 use Rattle.laws.proofs.Upward.{pad-upTo}
 use Rattle.formula.specs.Tables.{mostNodes}
-use Rattle.formula.specs.Checks.{renamed}
+use Rattle.marks.specs.Sets.{renamed}
 use Rattle.clausal.specs.Clauses.{Renaming, renaming, renamedBelow, helperOf, nameOf, variablesOf}
 use Rattle.parts.specs.Inner.Helpers.{helpersOf, Unnamed}
 

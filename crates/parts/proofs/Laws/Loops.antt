@@ -11,13 +11,13 @@ use lib.ListN.{length, getD, take, length-map, length-append}
 use lib.Seq.{take-all}
 use borrow.Author.Tests.{eq-eqb, ne-eqb}
 use denote.Ref.{RefT}
-use Rattle.formula.specs.Inner.Held.{Marked, heldAt}
-use Rattle.formula.specs.Marks.{marksOf, markOf, halvesOf}
+use Rattle.marks.specs.Inner.Held.{Marked, heldAt}
+use Rattle.marks.specs.Marks.{marksOf, markOf, halvesOf}
 use Rattle.formula.specs.Tables.{nodeCount, nodesOf}
-use Rattle.formula.specs.declared.mark.Halves.{Halves}
-use Rattle.formula.specs.declared.mark.Mark.{Mark}
+use Rattle.marks.specs.declared.mark.Halves.{Halves}
+use Rattle.marks.specs.declared.mark.Mark.{Mark}
 use Rattle.formula.specs.declared.node.Node.{Node}
-use Rattle.formula.proofs.Laws.Held.{heldAt-held}
+use Rattle.marks.proofs.Laws.Held.{heldAt-held}
 use Rattle.formula.proofs.Laws.Tables.{length-nodesOf}
 use Rattle.clausal.specs.Clauses.{Clause, clauseBytes, clausesBytes}
 use Rattle.clausal.specs.Totals.{clauseCeiling}

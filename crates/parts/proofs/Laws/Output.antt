@@ -14,11 +14,11 @@ use Rattle.laws.specs.Lists.{upTo}
 use Rattle.laws.proofs.Arrays.{getD-pad}
 use Rattle.laws.proofs.Upward.{length-upTo, getD-upTo}
 use Rattle.formula.specs.Tables.{mostNodes, nodeIn}
-use Rattle.formula.specs.Marks.{markOf, halvesOf}
-use Rattle.formula.specs.Checks.{renamed, operator, reached, mayRename, byteRight, setChecked}
-use Rattle.formula.specs.declared.mark.Halves.{Halves}
+use Rattle.marks.specs.Marks.{markOf, halvesOf}
+use Rattle.marks.specs.Sets.{renamed, operator, reached, mayRename, byteRight, setChecked}
+use Rattle.marks.specs.declared.mark.Halves.{Halves}
 use Rattle.formula.specs.declared.node.Node.{Node}
-use Rattle.formula.proofs.Laws.Sets.{RightSet, right-set}
+use Rattle.marks.proofs.Laws.Sets.{RightSet, right-set}
 use Rattle.clausal.specs.Inner.Places.{contentsOf}
 use Rattle.clausal.specs.Clauses.{clauses, joinAll, Literal, Clause, Renaming, helperOf, nameOf, rowOf}
 use Rattle.clausal.specs.Output.{Part, rootPart, downPart, upPart, definition, definitions, partsOf, outputOf}

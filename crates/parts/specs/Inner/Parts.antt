@@ -5,8 +5,8 @@ use mathlib.Core.List.{List, [], _∷_, _++_, map}
 use Prim.Native.Nat.{ℕ, zero, suc, _-_, _<_}
 use lib.Dec.{eqb}
 use lib.ListN.{length, getD}
-use Rattle.formula.specs.Inner.Held.{Marked}
-use Rattle.formula.specs.Marks.{markOf, halvesOf}
+use Rattle.marks.specs.Inner.Held.{Marked}
+use Rattle.marks.specs.Marks.{markOf, halvesOf}
 use Rattle.formula.specs.Tables.{nodeCount, nodesOf}
 use Rattle.formula.specs.declared.node.Node.{Node}
 use Rattle.clausal.specs.Clauses.{Clause, clauseBytes, clausesBytes}

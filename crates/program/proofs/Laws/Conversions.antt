@@ -14,7 +14,8 @@ use Rattle.answer.specs.Answers.{toldOf, refuses, after, Wrote, afterwards, sto
 use Rattle.answer.specs.declared.Answer.{Answer}
 use Rattle.answer.specs.declared.Answer.the-variants.{Accepted}
 use Rattle.answer.proofs.Laws.Order.{accepted-afterwards, accepted-stored}
-use Rattle.formula.specs.Checks.{checked, setChecked}
+use Rattle.formula.specs.Checks.{checked}
+use Rattle.marks.specs.Sets.{setChecked}
 use Rattle.formula.specs.Tables.{nodesOf}
 use Rattle.formula.specs.declared.node.Node.{Node}
 use Rattle.clausal.specs.Clauses.{Clause, clausesBytes, Renaming, renaming, variablesOf}

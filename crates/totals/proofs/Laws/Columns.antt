@@ -14,7 +14,7 @@ use Rattle.laws.specs.Lists.{upTo}
 use Rattle.laws.proofs.Upward.{length-upTo}
 use Rattle.formula.specs.Inner.Right.{Below}
 use Rattle.formula.specs.Tables.{mostNodes, nodeIn}
-use Rattle.formula.specs.Checks.{renamed}
+use Rattle.marks.specs.Sets.{renamed}
 use Rattle.formula.specs.declared.node.Kind.{Kind}
 use Rattle.formula.specs.declared.node.Node.{Node}
 use Rattle.clausal.specs.Clauses as algebra

@@ -12,11 +12,11 @@ use lib.Dec.{eqb}
 use lib.ListN.{length, set}
 use borrow.Author.Tests.{eqb-true, eqb-false}
 use Rattle.formula.specs.Inner.Right.{Below}
-use Rattle.formula.specs.Marks.{toA, toB, halvesOf, markOf}
+use Rattle.marks.specs.Marks.{toA, toB, halvesOf, markOf}
 use Rattle.formula.specs.Tables.{nodeIn}
-use Rattle.formula.specs.Paths.{has}
-use Rattle.formula.specs.Checks.{renamed}
-use Rattle.formula.specs.declared.mark.Mark.{Mark}
+use Rattle.marks.specs.Paths.{has}
+use Rattle.marks.specs.Sets.{renamed}
+use Rattle.marks.specs.declared.mark.Mark.{Mark}
 use Rattle.formula.specs.declared.node.Node.{Node}
 use Rattle.clausal.specs.Clauses.{Row, unitRow, noRow, Renaming, under, helperOf, nameOf, rowOf}
 use Rattle.clausal.specs.Output.{definitions}

@@ -7,8 +7,8 @@ use Prim.Native.Nat.{ℕ, zero, suc, _+_, _-_, _<_}
 use native.Mathlib.Numerals.{add-one}
 use native.Mathlib.Omega.{arith}
 use lib.ListN.{length}
-use Rattle.formula.specs.Marks.{markOf, halvesOf}
-use Rattle.formula.specs.Checks.{renamed}
+use Rattle.marks.specs.Marks.{markOf, halvesOf}
+use Rattle.marks.specs.Sets.{renamed}
 use Rattle.formula.specs.declared.node.Node.{Node}
 use Rattle.clausal.specs.Clauses.{Algebra, Row, Renaming, helperOf, nameOf, rowOf}
 use Rattle.clausal.specs.Output.{rootPart, downPart, upPart, definition, definitions, gather}

@@ -8,7 +8,7 @@ use Prim.Native.Nat.{ℕ, _<_, _≤_}
 use lib.Dec.{ltb}
 use lib.ListN.{length, getD}
 use Rattle.formula.specs.Tables.{mostNodes, mostTable, nodeCount, nodesOf}
-use Rattle.formula.specs.Checks.{renamed}
+use Rattle.marks.specs.Sets.{renamed}
 use Rattle.formula.specs.declared.node.Node.{Node}
 use Rattle.clausal.specs.Clauses.{Row, unitRow, noRow, rowBy, renaming, nameOf, rowOf}
 use Rattle.clausal.specs.Totals.{Size, capped}

@@ -5,12 +5,12 @@ use mathlib.Core.List.{List}
 use mathlib.Core.Path.{_≡_}
 use Prim.Native.Nat.{ℕ, _+_, _<_, _≤_}
 use lib.ListN.{length, set}
-use Rattle.formula.specs.Inner.Held.{Marked}
+use Rattle.marks.specs.Inner.Held.{Marked}
 use Rattle.formula.specs.Inner.Right.{Below}
-use Rattle.formula.specs.Marks.{halvesOf}
+use Rattle.marks.specs.Marks.{halvesOf}
 use Rattle.formula.specs.Tables.{nodeCount, nodeIn, nodesOf}
-use Rattle.formula.specs.Checks.{renamed}
-use Rattle.formula.specs.declared.mark.Mark.{Mark}
+use Rattle.marks.specs.Sets.{renamed}
+use Rattle.marks.specs.declared.mark.Mark.{Mark}
 use Rattle.formula.specs.declared.node.Node.{Node}
 use Rattle.clausal.specs.Clauses.{Algebra, Row, renaming}
 use Rattle.clausal.specs.Totals.{totalUnder}

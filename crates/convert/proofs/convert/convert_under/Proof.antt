@@ -3,7 +3,7 @@ use mathlib.Core.Bool.{false}
 use borrow.Author.Needs.{needs}
 use Rattle.answer.proofs.Laws.Order.{tested, refused-wrote, accepted-wrote}
 use Rattle.formula.specs.Tables.{nodesOf}
-use Rattle.formula.proofs.Laws.Sets.{set-accepted}
+use Rattle.marks.proofs.Laws.Sets.{set-accepted}
 use Rattle.convert.proofs.convert.convert_under.Statement.{statement}
 use Rattle.convert.proofs.convert.convert_under.Tie as tie
 

@@ -2,7 +2,7 @@
 use mathlib.Core.Path.{ap, _∙_}
 use native.Mathlib.Omega.{arith}
 use borrow.Author.Needs.{needs}
-use Rattle.formula.specs.Marks.{halvesOf}
+use Rattle.marks.specs.Marks.{halvesOf}
 use Rattle.parts.proofs.Laws.Loops.{undefined, due-down, due-up, put-defined}
 use Rattle.parts.proofs.part.write_definition.Statement.{statement}
 use Rattle.parts.proofs.part.write_definition.Tie as tie

@@ -6,7 +6,7 @@ use Rattle.answer.specs.Answers.{after}
 use Rattle.answer.specs.declared.Answer.the-variants.{Accepted}
 use Rattle.answer.proofs.Laws.Order.{tested, refused-first, accepted-first}
 use Rattle.formula.specs.Tables.{nodesOf}
-use Rattle.formula.specs.Checks.{setChecked}
+use Rattle.marks.specs.Sets.{setChecked}
 use Rattle.formula.proofs.Laws.WellFormed.{length-right}
 use Rattle.clausal.specs.Clauses.{renaming}
 use Rattle.clausal.specs.Totals.{Size}

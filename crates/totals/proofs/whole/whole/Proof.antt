@@ -4,11 +4,11 @@ use mathlib.Core.Path.{_≡_, refl, sym, ap, _∙_}
 use Prim.Native.Nat.{ℕ, _≤_, _-_}
 use native.Mathlib.Omega.{arith}
 use lib.ListN.{length}
-use Rattle.formula.specs.Inner.Held.{heldAt}
-use Rattle.formula.specs.Marks.{marksOf}
+use Rattle.marks.specs.Inner.Held.{heldAt}
+use Rattle.marks.specs.Marks.{marksOf}
 use Rattle.formula.specs.Tables.{nodeCount, nodesOf}
-use Rattle.formula.specs.Checks.{renamed}
-use Rattle.formula.proofs.Laws.Held.{heldAt-held}
+use Rattle.marks.specs.Sets.{renamed}
+use Rattle.marks.proofs.Laws.Held.{heldAt-held}
 use Rattle.formula.proofs.Laws.Tables.{length-nodesOf}
 use Rattle.clausal.specs.Clauses.{Row, renaming, nameOf, rowOf}
 use Rattle.clausal.specs.Totals.{Size, capped}

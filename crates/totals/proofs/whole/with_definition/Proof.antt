@@ -2,7 +2,7 @@
 use mathlib.Core.Path.{_≡_, ap, _∙_}
 use mathlib.Core.Bool.{true, false}
 use borrow.Author.Needs.{needs}
-use Rattle.formula.specs.declared.mark.Halves.{Halves}
+use Rattle.marks.specs.declared.mark.Halves.{Halves}
 use Rattle.clausal.specs.Totals.{Size, capped}
 use Rattle.capped.specs.Inner.Sized.{sized, asTotal}
 use Rattle.totals.specs.Inner.Sums.{withPart}
