@@ -5,7 +5,7 @@ use mathlib.Core.List.{List, [], _∷_, _++_}
 use Prim.Native.Nat.{ℕ}
 use lib.ListN.{replicate}
 use Rattle.text.specs.Texts.{digits}
-use Rattle.text.specs.Inner.Heads.{headOf}
+use Rattle.header.specs.Inner.Heads.{headOf}
 use Rattle.answer.specs.declared.Answer.{Answer}
 use Rattle.answer.specs.declared.Answer.the-variants.{Accepted, Room, Text, ClauseBytes}
 use Rattle.clausebytes.specs.Words.{wordsOf, clausesIn, closedFrom, allWithin}

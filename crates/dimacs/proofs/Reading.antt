@@ -9,8 +9,8 @@ use lib.ListN.{length}
 use Rattle.laws.specs.Automata.{Longest}
 use Rattle.laws.proofs.Automata.{one-place}
 use Rattle.laws.proofs.Choices.{both}
-use Rattle.text.specs.Inner.Heads.{isDone, headOf}
-use Rattle.text.proofs.Headed.{head-continues}
+use Rattle.header.specs.Inner.Heads.{isDone, headOf}
+use Rattle.header.proofs.Headed.{head-continues}
 use Rattle.answer.specs.Answers.{stored}
 use Rattle.answer.specs.declared.Answer.the-variants as answer
 use Rattle.clausal.specs.Clauses.{Clause, clausesBytes}

@@ -5,7 +5,8 @@ use mathlib.Core.Bool.{true, false}
 use mathlib.Core.List.{List, [], _∷_, _++_, append-assoc}
 use Prim.Native.Nat.{ℕ}
 use lib.ListN.{length}
-use Rattle.text.specs.Texts.{decimal, Blanks, Numbers, space, none, blanks, just, number, header}
+use Rattle.text.specs.Texts.{decimal}
+use Rattle.header.specs.Heads.{Blanks, Numbers, space, none, blanks, just, number, header}
 use Rattle.answer.specs.Answers.{stored}
 use Rattle.answer.specs.declared.Answer.the-variants as answer
 use Rattle.clausal.specs.Clauses.{Clause, clausesBytes}

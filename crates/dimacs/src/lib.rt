@@ -16,9 +16,8 @@ use clausebytes::check::check;
 use clausebytes::limits::MOST_CLAUSES;
 use clausebytes::limits::MOST_VARIABLES;
 use clausebytes::word::room;
+use header::Form;
 use state::State;
-use text::head;
-use text::head::Form;
 use text::number::width;
 
 // The bytes of a text: the header line, and the lines of the clauses.
@@ -82,7 +81,7 @@ fn cnf_form() -> Form
 pub fn read(text: &[u8], clauses: &mut [u8]) -> Answer
     ensures { λ r. ⌜ record { answer = r; output = now (clauses .exit) } ≡ readCall (now (text .entry)) (now (clauses .entry)) ⌝ }
 {
-    let head = head::read(text, cnf_form());
+    let head = header::read(text, cnf_form());
     let from = head.place;
     if !head.is_done() {
         return Answer::Text { place: from };

@@ -1,7 +1,7 @@
 // The reader's state behind the header: it goes in by value with each byte, and the advanced state comes back.
 ghost use mathlib.Core.Path.{_≡_};
 ghost use Prim.Native.Nat.{_<_};
-ghost use Rattle.text.specs.Inner.Heads.{lastPlace};
+ghost use Rattle.header.specs.Inner.Heads.{lastPlace};
 ghost use Rattle.dimacs.specs.Inner.States.{startOf, toOf, deadOf, takenOf, closeOf, openOf, begunOf, turnOf, moveOf, steppedOf};
 ghost use Rattle.dimacs.specs.Inner.States.{accepts};
 use crate::class::class_of;

@@ -5,6 +5,3 @@ pub mod Fields
 pub mod Pieces
 pub mod Same
 pub mod Backward
-pub mod Readers
-pub mod Heads
-pub mod Steps

@@ -1,5 +1,4 @@
 -- Laws and theorems of texts.
 pub mod Laws
 pub mod Cases
-pub mod Headed
 pub mod NoChoice

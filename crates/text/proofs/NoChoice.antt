@@ -30,14 +30,6 @@ use Rattle.text.proofs.write.put_number.Kinds as write-put-number-kinds
 use Rattle.text.proofs.write.put_number.Reads as write-put-number
 use Rattle.text.proofs.write.put_field.Kinds as write-put-field-kinds
 use Rattle.text.proofs.write.put_field.Reads as write-put-field
-use Rattle.text.proofs.head.Head.start.Kinds as head-head-start-kinds
-use Rattle.text.proofs.head.Head.start.Reads as head-head-start
-use Rattle.text.proofs.head.Head.is_done.Kinds as head-head-is-done-kinds
-use Rattle.text.proofs.head.Head.is_done.Reads as head-head-is-done
-use Rattle.text.proofs.head.Head.step.Kinds as head-head-step-kinds
-use Rattle.text.proofs.head.Head.step.Reads as head-head-step
-use Rattle.text.proofs.head.read.Kinds as head-read-kinds
-use Rattle.text.proofs.head.read.Reads as head-read
 
 pub number-is-digit-settled : (κs : Lfts 0) (a : Dens κs number-is-digit-kinds.ps) (r q : resT number-is-digit-kinds.r κs .Denot)
     (s t : AtExit (endedOf 0 number-is-digit-kinds.ps number-is-digit-kinds.r) κs) → number-is-digit.Post κs a r s
@@ -106,26 +98,3 @@ pub write-put-field-settled : (κs : Lfts 1) (a : Dens κs write-put-field-kinds
     → write-put-field.Post κs a q t
     → (r ≡ q) × (now (s .0) ≡ now (t .0))
 write-put-field-settled κs a r q s t e f = (e .place ∙ sym (f .place), e .list ∙ sym (f .list))
-
-pub head-head-start-settled : (κs : Lfts 0) (a : Dens κs head-head-start-kinds.ps) (r q : resT head-head-start-kinds.r κs .Denot)
-    (s t : AtExit (endedOf 0 head-head-start-kinds.ps head-head-start-kinds.r) κs) → head-head-start.Post κs a r s
-    → head-head-start.Post κs a q t
-    → r ≡ q
-head-head-start-settled κs a r q s t e f = e ∙ sym f
-
-pub head-head-is-done-settled : (κs : Lfts 0) (a : Dens κs head-head-is-done-kinds.ps) (r q : resT head-head-is-done-kinds.r κs .Denot)
-    (s t : AtExit (endedOf 0 head-head-is-done-kinds.ps head-head-is-done-kinds.r) κs) → head-head-is-done.Post κs a r s
-    → head-head-is-done.Post κs a q t
-    → r ≡ q
-head-head-is-done-settled κs a r q s t e f = e ∙ sym f
-
-pub head-head-step-settled : (κs : Lfts 0) (a : Dens κs head-head-step-kinds.ps) (r q : resT head-head-step-kinds.r κs .Denot)
-    (s t : AtExit (endedOf 0 head-head-step-kinds.ps head-head-step-kinds.r) κs) → head-head-step.Post κs a r s
-    → head-head-step.Post κs a q t
-    → r ≡ q
-head-head-step-settled κs a r q s t e f = e ∙ sym f
-
-pub head-read-settled : (κs : Lfts 1) (a : Dens κs head-read-kinds.ps) (r q : resT head-read-kinds.r κs .Denot)
-    (s t : AtExit (endedOf 1 head-read-kinds.ps head-read-kinds.r) κs) → head-read.Post κs a r s → head-read.Post κs a q t
-    → r ≡ q
-head-read-settled κs a r q s t e f = e ∙ sym f

@@ -1,4 +1,3 @@
 -- What only the contracts of inner functions cite.
 pub mod Numbers
 pub mod Pieces
-pub mod Heads

@@ -1,5 +1,4 @@
-// Text: its pieces between marks, decimal numbers read and written, and the head of a DIMACS text.
-pub mod head;
+// Text: its pieces between marks, and decimal numbers read and written.
 pub mod number;
 pub mod piece;
 pub mod write;

@@ -7,7 +7,7 @@ use Prim.Native.Nat.{ℕ, zero, suc, _+_, _-_, _≤_, _<_}
 use native.Mathlib.Omega.{arith}
 use lib.Dec.{eqb, ltb}
 use borrow.Author.Tests.{eqb-true, eqb-false, ltb-true, ltb-false, ne-eqb, lt-ltb, le-ltb}
-use Rattle.text.specs.Texts.{space, tab}
+use Rattle.header.specs.Heads.{space, tab}
 use Rattle.dimacs.specs.Texts as grammar
 use Rattle.dimacs.specs.Inner.Table.{lowOf, classOf, actOf}
 use Rattle.dimacs.specs.declared.class.Class.{Class}

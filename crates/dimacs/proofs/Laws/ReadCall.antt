@@ -9,8 +9,8 @@ use lib.ListN.{length, drop}
 use Rattle.laws.specs.Lists.{splice}
 use Rattle.laws.specs.Automata.{output}
 use Rattle.laws.proofs.Stored.{stored-nothing}
-use Rattle.text.specs.Inner.Heads.{isDone, headOf}
-use Rattle.text.specs.declared.head.Head.{Head}
+use Rattle.header.specs.Inner.Heads.{isDone, headOf}
+use Rattle.header.specs.declared.Head.{Head}
 use Rattle.answer.specs.Answers.{stored}
 use Rattle.answer.specs.declared.Answer.the-variants.{Accepted, Room, Text}
 use Rattle.answer.proofs.Laws.Part.{stored-short, stored-fits}

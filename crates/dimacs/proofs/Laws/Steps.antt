@@ -11,13 +11,14 @@ use lib.Dec.{eqb, ltb}
 use lib.ListN.{length, length-append}
 use borrow.Author.Tests.{ltb-true, eqb-true, eqb-false, eq-eqb}
 use Rattle.laws.specs.Automata.{run, output, Begins}
-use Rattle.text.specs.Texts.{decimal, space}
+use Rattle.text.specs.Texts.{decimal}
+use Rattle.header.specs.Heads.{space}
 use Rattle.text.specs.Inner.Numbers.{grownOf}
 use Rattle.text.specs.declared.number.Number.{Number}
 use Rattle.text.specs.declared.number.Number.the-variants.{Wrong, Is}
 use Rattle.text.proofs.Laws.Decimals.{decimal-some}
 use Rattle.text.proofs.Laws.Numbers.{More, here, digit, First, first, grown-of}
-use Rattle.text.proofs.Laws.Readers.{Reader, Placed}
+use Rattle.header.proofs.Laws.Readers.{Reader, Placed}
 use Rattle.clausal.specs.Clauses.{Literal, Clause, literalBytes, clausesBytes}
 use Rattle.clausal.specs.Totals.{literalsIn}
 use Rattle.clausebytes.specs.Words as right

@@ -8,11 +8,11 @@ use Prim.Native.Nat.{ℕ, _≤_}
 use native.Mathlib.Omega.{arith}
 use lib.ListN.{length, drop}
 use Rattle.laws.specs.Automata.{Begins, Longest}
-use Rattle.text.specs.Texts.{Headed}
-use Rattle.text.specs.Inner.Heads.{isDone, headOf}
-use Rattle.text.specs.declared.head.Head.{Head}
-use Rattle.text.proofs.Headed.{head-within, head-continues, head-refuses, head-longest, head-dies}
-use Rattle.text.proofs.Laws.Readers.{goes, longest-same, longest-open, place-goes}
+use Rattle.header.specs.Heads.{Headed}
+use Rattle.header.specs.Inner.Heads.{isDone, headOf}
+use Rattle.header.specs.declared.Head.{Head}
+use Rattle.header.proofs.Headed.{head-within, head-continues, head-refuses, head-longest, head-dies}
+use Rattle.header.proofs.Laws.Readers.{goes, longest-same, longest-open, place-goes}
 use Rattle.clausal.specs.Clauses.{Clause, clausesBytes}
 use Rattle.clausal.specs.Totals.{literalsIn}
 use Rattle.clausebytes.specs.Words.{mostVariables, mostClauses, Within}

@@ -7,7 +7,7 @@ use native.Mathlib.Omega.{arith}
 use borrow.Author.Needs.{needs}
 use borrow.Author.Tests.{not-true, not-false}
 use lib.ListN.{length}
-use Rattle.text.specs.Inner.Heads.{headOf}
+use Rattle.header.specs.Inner.Heads.{headOf}
 use Rattle.clausebytes.specs.Inner.Checks.{roomOf}
 use Rattle.dimacs.specs.Texts.{cnf}
 use Rattle.dimacs.specs.Inner.States.{accepts}

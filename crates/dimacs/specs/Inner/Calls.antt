@@ -4,7 +4,7 @@ use mathlib.Core.Bool.{cond}
 use mathlib.Core.List.{List}
 use Prim.Native.Nat.{ℕ}
 use lib.ListN.{length}
-use Rattle.text.specs.Inner.Heads.{isDone, headOf}
+use Rattle.header.specs.Inner.Heads.{isDone, headOf}
 use Rattle.answer.specs.Answers.{Wrote, stored}
 use Rattle.answer.specs.declared.Answer.the-variants.{Accepted, Text}
 use Rattle.clausebytes.specs.Words.{clausesOf, wrongBytes}

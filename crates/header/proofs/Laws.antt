@@ -1,0 +1,4 @@
+-- Laws of the head of a text, by subject.
+pub mod Readers
+pub mod Heads
+pub mod Steps
