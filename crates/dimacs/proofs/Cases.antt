@@ -9,11 +9,9 @@ use Rattle.header.specs.Inner.Heads.{headOf}
 use Rattle.answer.specs.declared.Answer.{Answer}
 use Rattle.answer.specs.declared.Answer.the-variants.{Accepted, Room, Text, ClauseBytes}
 use Rattle.clausebytes.specs.Words.{wordsOf, clausesIn, closedFrom, allWithin}
+use Rattle.body.specs.declared.state.State.{State}
 use Rattle.dimacs.specs.Texts.{cnf, writeCall}
-use Rattle.dimacs.specs.Inner.States.{stepOf}
 use Rattle.dimacs.specs.Inner.Calls.{readCall}
-use Rattle.dimacs.specs.declared.phase.Phase.the-variants.{Between, Dead}
-use Rattle.dimacs.specs.declared.state.State.{State}
 use Rattle.dimacs.proofs.Laws.ReadCall.{endAt}
 
 -- `p cnf `
@@ -157,18 +155,6 @@ spaces-in-header = refl
 -- `p cnf 2 2\n1 -2 0 0`
 two-clauses : answers (start ++ (50 ∷ 32 ∷ 50 ∷ 10 ∷ 49 ∷ 32 ∷ 45 ∷ 50 ∷ 32 ∷ 48 ∷ 32 ∷ 48 ∷ [])) ≡ Accepted 2 2
 two-clauses = refl
-
--- the literal past 999,999, at its first byte; a `-` too
-full : State
-full = record { phase = Between; place = 50; value = 0; variables = 9; declared = 1; clauses = 0; literals = 999999 }
-
-literal-past-the-limit : stepOf full 49 .phase ≡ Dead
-unfolding full
-literal-past-the-limit = refl
-
-minus-past-the-limit : stepOf full 45 .phase ≡ Dead
-unfolding full
-minus-past-the-limit = refl
 
 -- a literal counts from its first byte, a clause from its zero: `p cnf 1 1\n1`, `p cnf 1 1\n1 0`
 abbrev ended : List ℕ → State

@@ -16,10 +16,10 @@ use Rattle.answer.specs.declared.Answer.the-variants as answer
 use Rattle.clausal.specs.Clauses.{Clause, clausesBytes}
 use Rattle.clausebytes.specs.Words.{clausesOf, Right}
 use Rattle.clausebytes.proofs.Encoded.{clauses-of-bytes}
+use Rattle.body.specs.Inner.States.{accepts}
+use Rattle.body.specs.declared.state.State.{State}
 use Rattle.dimacs.specs.Texts.{cnf, Follows, Text, Accepted}
-use Rattle.dimacs.specs.Inner.States.{accepts}
 use Rattle.dimacs.specs.Inner.Calls.{readCall}
-use Rattle.dimacs.specs.declared.state.State.{State}
 use Rattle.dimacs.proofs.Laws.ReadCall.{endAt}
 use Rattle.dimacs.proofs.Laws.Texts.{not-headed, longest-head, body-of-text, text-of-body, longest-body}
 

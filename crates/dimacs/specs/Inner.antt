@@ -1,6 +1,5 @@
--- What only the contracts of inner functions cite: the writer word by word, and the reader byte by byte.
+-- What only the contracts of inner functions cite: the writer word by word, and what is read behind a header.
 -- `proofs/Reading` says that the reader is the grammar's, so nothing here is to be believed.
 pub mod Words
-pub mod Table
-pub mod States
+pub mod Walks
 pub mod Calls

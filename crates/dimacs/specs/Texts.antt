@@ -9,9 +9,9 @@ use Rattle.answer.specs.Answers.{Wrote, stored}
 use Rattle.answer.specs.declared.Answer.the-variants as answer
 use Rattle.text.specs.Texts.{decimal}
 use Rattle.header.specs.Heads.{Blank, Headed}
+use Rattle.header.specs.declared.Form.{Form}
 use Rattle.clausal.specs.Clauses.{Literal, Clause}
 use mathlib.Core.Path.{_≡_}
-use Rattle.header.specs.declared.Form.{Form}
 use Rattle.clausebytes.specs.Words.{clausesOf, mostVariables, mostClauses, Right, wrongBytes}
 
 -- R9.1: `p cnf `, the variables, a space, the clauses, a newline

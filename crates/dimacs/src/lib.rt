@@ -1,8 +1,5 @@
 // DIMACS CNF: writing clause bytes as text, and reading text as clause bytes.
-mod class;
-mod phase;
 mod reader;
-mod state;
 mod writer;
 
 ghost use mathlib.Core.Path.{_≡_};
@@ -11,13 +8,13 @@ ghost use lib.ListN.{length};
 ghost use Rattle.dimacs.specs.Texts.{headerLine, cnf, writeCall};
 ghost use Rattle.dimacs.specs.Inner.Calls.{textLength, readCall};
 use answer::Answer;
+use body::State;
 use clausebytes::check::Checked;
 use clausebytes::check::check;
 use clausebytes::limits::MOST_CLAUSES;
 use clausebytes::limits::MOST_VARIABLES;
 use clausebytes::word::room;
 use header::Form;
-use state::State;
 use text::number::width;
 
 // The bytes of a text: the header line, and the lines of the clauses.

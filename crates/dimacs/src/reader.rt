@@ -4,11 +4,10 @@ ghost use Prim.Native.Nat.{_+_, _≤_};
 ghost use lib.ListN.{length};
 ghost use Rattle.laws.specs.Inner.Stores.{Stored};
 ghost use Rattle.laws.specs.Numbers.{little};
-ghost use Rattle.dimacs.specs.Inner.Table.{tokenBytes, tokenFor};
-ghost use Rattle.dimacs.specs.Inner.States.{Walking, Walked};
-use crate::phase::Token;
-use crate::state::State;
+ghost use Rattle.dimacs.specs.Inner.Walks.{tokenBytes, tokenFor, Walking, Walked};
 use answer::put;
+use body::State;
+use body::Token;
 use clausebytes::word::complement;
 
 // Writes a word, and returns the next place.

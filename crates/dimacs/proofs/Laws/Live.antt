@@ -8,14 +8,14 @@ use native.Mathlib.Omega.{arith}
 use lib.Dec.{eqb, ltb}
 use borrow.Author.Tests.{eqb-true, eqb-false, ltb-true, ltb-false, ne-eqb, lt-ltb, le-ltb}
 use Rattle.header.specs.Heads.{space, tab}
+use Rattle.body.specs.Inner.Table.{lowOf, classOf, actOf}
+use Rattle.body.specs.declared.class.Class.{Class}
+use Rattle.body.specs.declared.class.Class.the-variants.{Nought, Digit, Minus, White, Other}
+use Rattle.body.specs.declared.phase.Phase.{Phase}
+use Rattle.body.specs.declared.phase.Phase.the-variants.{Between, Closed, Sign, Plain, Negated, Dead}
+use Rattle.body.specs.declared.phase.Act.{Act}
+use Rattle.body.specs.declared.phase.Act.the-variants.{Die, Go, Close, Begin, Turn, Lead, Grow, EndPlain, EndNegated}
 use Rattle.dimacs.specs.Texts as grammar
-use Rattle.dimacs.specs.Inner.Table.{lowOf, classOf, actOf}
-use Rattle.dimacs.specs.declared.class.Class.{Class}
-use Rattle.dimacs.specs.declared.class.Class.the-variants.{Nought, Digit, Minus, White, Other}
-use Rattle.dimacs.specs.declared.phase.Phase.{Phase}
-use Rattle.dimacs.specs.declared.phase.Phase.the-variants.{Between, Closed, Sign, Plain, Negated, Dead}
-use Rattle.dimacs.specs.declared.phase.Act.{Act}
-use Rattle.dimacs.specs.declared.phase.Act.the-variants.{Die, Go, Close, Begin, Turn, Lead, Grow, EndPlain, EndNegated}
 
 pub data Live : Phase → ℕ → Act → Type 0 where
   close : Live Between 48 Close

@@ -16,10 +16,11 @@ use Rattle.answer.specs.declared.Answer.the-variants.{Accepted, Room, Text}
 use Rattle.answer.proofs.Laws.Part.{stored-short, stored-fits}
 use Rattle.clausebytes.specs.Inner.Checks.{roomOf}
 use Rattle.clausebytes.proofs.Encoded.{length-clauses}
+use Rattle.body.specs.Inner.States.{startOf, accepts, stepOf}
+use Rattle.body.specs.declared.state.State.{State}
 use Rattle.dimacs.specs.Texts.{cnf}
-use Rattle.dimacs.specs.Inner.States.{startOf, accepts, stepOf, stateFrom, bytesFrom, putsFor, writtenFrom, Walking, Walked}
+use Rattle.dimacs.specs.Inner.Walks.{stateFrom, bytesFrom, putsFor, writtenFrom, Walking, Walked}
 use Rattle.dimacs.specs.Inner.Calls.{readCall}
-use Rattle.dimacs.specs.declared.state.State.{State}
 use Rattle.dimacs.proofs.Laws.Texts.{body-of-text, text-of-body}
 
 -- the state behind a head, and at the end of the text

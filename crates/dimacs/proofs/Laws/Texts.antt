@@ -16,11 +16,13 @@ use Rattle.header.proofs.Laws.Readers.{goes, longest-same, longest-open, place-
 use Rattle.clausal.specs.Clauses.{Clause, clausesBytes}
 use Rattle.clausal.specs.Totals.{literalsIn}
 use Rattle.clausebytes.specs.Words.{mostVariables, mostClauses, Within}
+use Rattle.body.specs.Inner.States.{startOf, accepts, stepOf}
+use Rattle.body.specs.declared.state.State.{State}
+use Rattle.body.proofs.Laws.Places.{live-state, body-placed}
 use Rattle.dimacs.specs.Texts.{cnf, Follows, Text, Accepted}
-use Rattle.dimacs.specs.Inner.States.{startOf, accepts, stepOf, stateFrom, bytesFrom}
-use Rattle.dimacs.specs.declared.state.State.{State}
+use Rattle.dimacs.specs.Inner.Walks.{stateFrom, bytesFrom}
 use Rattle.dimacs.proofs.Laws.Bodies.{Lang, Kept}
-use Rattle.dimacs.proofs.Laws.Steps.{Follow, body-reader, body-placed, body-some-text, body-whole, body-sound, live-state}
+use Rattle.dimacs.proofs.Laws.Steps.{Follow, body-reader, body-some-text, body-whole, body-sound}
 
 -- what may follow a header of m variables and k clauses, for some clauses
 abbrev pub After : ℕ → ℕ → List ℕ → Type 0

@@ -9,9 +9,9 @@ use borrow.Author.Tests.{not-true, not-false}
 use lib.ListN.{length}
 use Rattle.header.specs.Inner.Heads.{headOf}
 use Rattle.clausebytes.specs.Inner.Checks.{roomOf}
+use Rattle.body.specs.Inner.States.{accepts}
+use Rattle.body.specs.declared.state.State.{State}
 use Rattle.dimacs.specs.Texts.{cnf}
-use Rattle.dimacs.specs.Inner.States.{accepts}
-use Rattle.dimacs.specs.declared.state.State.{State}
 use Rattle.dimacs.proofs.Laws.ReadCall.{Seen, read-headless, nothing-written, read-refused, read-no-room, read-room, read-accepted}
 use Rattle.dimacs.proofs.read.Statement.{statement}
 use Rattle.dimacs.proofs.read.Tie as tie

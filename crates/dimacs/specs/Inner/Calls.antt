@@ -8,9 +8,10 @@ use Rattle.header.specs.Inner.Heads.{isDone, headOf}
 use Rattle.answer.specs.Answers.{Wrote, stored}
 use Rattle.answer.specs.declared.Answer.the-variants.{Accepted, Text}
 use Rattle.clausebytes.specs.Words.{clausesOf, wrongBytes}
+use Rattle.body.specs.Inner.States.{startOf, accepts}
+use Rattle.body.specs.declared.state.State.{State}
 use Rattle.dimacs.specs.Texts.{writtenText, cnf}
-use Rattle.dimacs.specs.Inner.States.{startOf, accepts, stateFrom, bytesFrom}
-use Rattle.dimacs.specs.declared.state.State.{State}
+use Rattle.dimacs.specs.Inner.Walks.{stateFrom, bytesFrom}
 
 -- R10.17, R10.19 and R11.14: a text and the buffer for its clause bytes: refusal 8, then 7. By `proofs/Reading` the text is accepted
 -- exactly if the grammar has it, the bytes are those of its clauses, and the place is R9.21's

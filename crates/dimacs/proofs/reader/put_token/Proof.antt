@@ -9,8 +9,8 @@ use Rattle.laws.proofs.Stored.{stored-nothing, stored-as}
 use Rattle.clausal.specs.Clauses.{wordOf}
 use mathlib.Core.Bool.{false}
 use Rattle.clausebytes.proofs.Laws.Words.{complement-bytes}
-use Rattle.dimacs.specs.Inner.Table.{tokenBytes}
-use Rattle.dimacs.specs.declared.phase.Token.{Token}
+use Rattle.body.specs.declared.phase.Token.{Token}
+use Rattle.dimacs.specs.Inner.Walks.{tokenBytes}
 use Rattle.dimacs.proofs.reader.put_token.Statement.{statement}
 use Rattle.dimacs.proofs.reader.put_token.Tie as tie
 

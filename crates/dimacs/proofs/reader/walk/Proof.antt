@@ -10,12 +10,12 @@ use Rattle.laws.specs.Automata.{run, output}
 use Rattle.laws.specs.Inner.Stores.{Stored}
 use Rattle.laws.proofs.Automata.{run-next, run-end, output-next, output-end}
 use Rattle.laws.proofs.Stored.{Storing, storing-start, storing-room, storing-length, storing-more, storing-end}
-use Rattle.dimacs.specs.Inner.Table.{tokenBytes, tokenFor}
-use Rattle.dimacs.specs.Inner.States.{stepOf, steppedOf, stateFrom, putsFor, writtenFrom}
-use Rattle.dimacs.specs.declared.phase.Token.{Token}
-use Rattle.dimacs.specs.declared.state.State.{State}
-use Rattle.dimacs.specs.declared.state.Stepped.{Stepped}
-use Rattle.dimacs.proofs.Laws.Steps.{place-step}
+use Rattle.body.specs.Inner.States.{stepOf, steppedOf}
+use Rattle.body.specs.declared.phase.Token.{Token}
+use Rattle.body.specs.declared.state.State.{State}
+use Rattle.body.specs.declared.state.Stepped.{Stepped}
+use Rattle.body.proofs.Laws.Places.{place-step}
+use Rattle.dimacs.specs.Inner.Walks.{tokenBytes, tokenFor, stateFrom, putsFor, writtenFrom}
 use Rattle.dimacs.proofs.reader.walk.Statement.{statement}
 use Rattle.dimacs.proofs.reader.walk.Tie as tie
 

@@ -1,0 +1,2 @@
+-- Laws of the reader behind a header, by subject.
+pub mod Places
