@@ -27,23 +27,17 @@ module _ {C : Type 0} (A : Algebra C) (u : Renaming) (ns : List Node) where
   abbrev pub rootPart : Part C
   rootPart = record { origin = length ns - 1; helper = 0; direction = root; content = rowOf A (nameOf u) ns (length ns - 1) .P }
 
+  -- a half of the definition of node i
+  abbrev pub halfPart : ℕ → Direction → C → Part C
+  halfPart i direction content = record { origin = i; helper = helperOf u i; direction = direction; content = content }
+
   -- R5.3
   abbrev pub downPart : ℕ → Part C
-  downPart i = record {
-    origin = i;
-    helper = helperOf u i;
-    direction = down;
-    content = A .join (A .unit false (helperOf u i)) (rowOf A (nameOf u) ns i .P);
-  }
+  downPart i = halfPart i down (A .join (A .unit false (helperOf u i)) (rowOf A (nameOf u) ns i .P))
 
   -- R5.4
   abbrev pub upPart : ℕ → Part C
-  upPart i = record {
-    origin = i;
-    helper = helperOf u i;
-    direction = up;
-    content = A .join (rowOf A (nameOf u) ns i .N) (A .unit true (helperOf u i));
-  }
+  upPart i = halfPart i up (A .join (rowOf A (nameOf u) ns i .N) (A .unit true (helperOf u i)))
 
   -- R5.5 to R5.7: the definition of node i, where it is renamed
   abbrev pub definition : ℕ → List (Part C)
