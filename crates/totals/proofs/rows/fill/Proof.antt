@@ -37,7 +37,10 @@ loop-again c =
     (omega arith, ready-more s (nodesOf t) i _ _ (c .row-next .result) inside most ready row)
 
 inside : tie.Need-row-next-requires Inv-loop μ-loop
-inside c κs = (omega arith, omega (arith, c .before .before .before .before .before .before .pre .most))
+inside c κs =
+    let loop = c .before .before .before in
+    let start = loop .before .before .before in
+    (omega arith, omega (arith, start .pre .most))
 
 returns : tie.Need-returns Inv-loop μ-loop
 returns c =
