@@ -35,22 +35,45 @@ too-many-options : checked guard 32001 ≡ Options
 unfolding firstFrom upTo
 too-many-options = refl
 
--- with V = 1 node 1 is the lowest that is wrong; a kind over 7, a child at its own number, a field that is not zero
-symbol-over : checked guard 1 ≡ Record 3 1
+-- each fault by itself: with V = 1 node 1 is the lowest that is wrong; a symbol 0, a kind over 7, a child at its own number, also where
+-- it is only the right one, a field that is not zero
+symbol-over : checked guard 1 ≡ Record 14 1
 unfolding firstFrom upTo
 symbol-over = refl
+
+symbol-zero : checked (guard ++ node 2 0 0) 2 ≡ Record 14 7
+unfolding firstFrom upTo
+symbol-zero = refl
 
 unknown-kind : checked (guard ++ node 8 0 0) 2 ≡ Record 3 7
 unfolding firstFrom upTo
 unknown-kind = refl
 
-own-child : checked (guard ++ node 4 0 7) 2 ≡ Record 3 7
+own-child : checked (guard ++ node 4 0 7) 2 ≡ Record 13 7
 unfolding firstFrom upTo
 own-child = refl
 
-unused-field : checked (guard ++ node 3 0 1) 2 ≡ Record 3 7
+unused-field : checked (guard ++ node 3 0 1) 2 ≡ Record 12 7
 unfolding firstFrom upTo
 unused-field = refl
+
+-- two faults in a record: a kind over 7 before a field, an unused field before a child and before a symbol
+kind-first : checked (guard ++ node 8 9 9) 2 ≡ Record 3 7
+unfolding firstFrom upTo
+kind-first = refl
+
+unused-before-child : checked (guard ++ node 3 7 1) 2 ≡ Record 12 7
+unfolding firstFrom upTo
+unused-before-child = refl
+
+unused-before-symbol : checked (guard ++ node 2 0 1) 2 ≡ Record 12 7
+unfolding firstFrom upTo
+unused-before-symbol = refl
+
+-- two faulty nodes: the lower one decides, whatever its fault
+lowest-first : checked (guard ++ node 2 3 0 ++ node 8 0 0) 2 ≡ Record 14 7
+unfolding firstFrom upTo
+lowest-first = refl
 
 -- the guard holds where both options are on, and fails where only one is
 true-in-both : formulaTrue (λ s. true) (nodesOf guard) ≡ true

@@ -8,7 +8,7 @@ use Rattle.laws.specs.Numbers.{little, littleAt}
 use Rattle.formula.specs.declared.node.Kind.{Kind}
 use Rattle.formula.specs.declared.node.Kind.the-variants.{False, True, Symbol, Not, And, Or, Implies, Equivalent, Unknown}
 use Rattle.formula.specs.declared.node.Node.{Node}
-use mathlib.Core.Bool.{Bool, true, false, cond}
+use mathlib.Core.Bool.{Bool, true, false, cond, _||_}
 use lib.Dec.{eqb, leb, ltb}
 use Rattle.formula.specs.declared.node.Use.{Use}
 use Rattle.formula.specs.declared.node.Kind.the-variants as kind
@@ -103,8 +103,39 @@ fieldRight v i held.Unused x = eqb x 0
 fieldRight v i held.Child x = ltb x i
 fieldRight v i held.Symbol x = cond (eqb x 0) false (leb x v)
 
--- the number of the refusal that node i earns, 0 for none
+-- R10.12: the numbers of the faults of a record, in the order in which they are looked at
+abbrev pub unknownKind : ℕ
+unknownKind = 3
+
+abbrev pub unusedNotZero : ℕ
+unusedNotZero = 12
+
+abbrev pub childNotBelow : ℕ
+childNotBelow = 13
+
+abbrev pub symbolOutside : ℕ
+symbolOutside = 14
+
+-- the fault of a field that is not right, by what it holds
+abbrev pub faultNumber : Use → ℕ
+faultNumber held.Unused = unusedNotZero
+faultNumber held.Child = childNotBelow
+faultNumber held.Symbol = symbolOutside
+
+-- the fault of a field of node i, 0 for none
+abbrev pub fieldFault : ℕ → ℕ → Use → ℕ → ℕ
+fieldFault v i u x = cond (fieldRight v i u x) 0 (faultNumber u)
+
+-- of the faults of two fields the one that is looked at first, 0 for none
+abbrev pub firstFault : ℕ → ℕ → ℕ
+firstFault a b =
+    cond (eqb a unusedNotZero || eqb b unusedNotZero) unusedNotZero
+    (cond (eqb a childNotBelow || eqb b childNotBelow) childNotBelow
+    (cond (eqb a symbolOutside || eqb b symbolOutside) symbolOutside 0))
+
+-- R10.12: the number of the refusal that node i earns, 0 for none; the kind is looked at first
 abbrev pub faultOf : ℕ → ℕ → Node → ℕ
 faultOf v i n =
     cond (known (n .kind))
-    (cond (fieldRight v i (useOfA (n .kind)) (n .a)) (cond (fieldRight v i (useOfB (n .kind)) (n .b)) 0 3) 3) 3
+    (firstFault (fieldFault v i (useOfA (n .kind)) (n .a)) (fieldFault v i (useOfB (n .kind)) (n .b)))
+    unknownKind

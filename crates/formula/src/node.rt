@@ -5,7 +5,7 @@ ghost use lib.ListN.{length};
 ghost use Rattle.laws.specs.Lists.{splice};
 ghost use Rattle.laws.specs.Numbers.{little, littleAt};
 ghost use Rattle.formula.specs.Tables.{fieldBytes, nodeBytes, kindOf, nodeAt, nodeCount, nodeRecord, known, useOfA, useOfB};
-ghost use Rattle.formula.specs.Tables.{fieldRight, faultOf};
+ghost use Rattle.formula.specs.Tables.{fieldFault, firstFault, faultOf};
 
 // Bytes of a field, and of a node: its kind and two fields.
 pub const FIELD_BYTES: usize = 2;
@@ -17,6 +17,15 @@ pub const MOST_NODES: usize = 1024;
 pub const MOST_TABLE: usize = NODE_BYTES * MOST_NODES;
 
 pub const MOST_OPTIONS: u32 = 32_000;
+// The faults of a record, by their refusal numbers: an unknown kind, an unused field that is not zero, a child that is not below its
+// node, and a symbol outside 1 to V.
+const UNKNOWN_KIND: u32 = 3;
+
+const UNUSED_NOT_ZERO: u32 = 12;
+
+const CHILD_NOT_BELOW: u32 = 13;
+
+const SYMBOL_OUTSIDE: u32 = 14;
 
 pub enum Kind {
     False,
@@ -186,20 +195,58 @@ fn use_of_b(kind: Kind) -> Use
     }
 }
 
-// Whether a field of node `i` is right, for what it holds.
-fn is_right(options: u32, i: usize, held: Use, field: usize) -> bool
-    ensures { λ r. ⌜ r ≡ fieldRight options i held field ⌝ }
+// The fault of a field of node `i`, for what it holds; 0 where it is right.
+fn field_fault(options: u32, i: usize, held: Use, field: usize) -> u32
+    ensures { λ r. ⌜ r ≡ fieldFault options i held field ⌝ }
 {
     match held {
-        Use::Unused => field == 0,
-        Use::Child => field < i,
+        Use::Unused => {
+            if field == 0 {
+                return 0;
+            }
+            UNUSED_NOT_ZERO
+        }
+        Use::Child => {
+            if field < i {
+                return 0;
+            }
+            CHILD_NOT_BELOW
+        }
         Use::Symbol => {
             if field == 0 {
-                return false;
+                return SYMBOL_OUTSIDE;
             }
-            field <= options as usize
+            if field <= options as usize {
+                return 0;
+            }
+            SYMBOL_OUTSIDE
         }
     }
+}
+
+// Of the faults of two fields the one that is looked at first, 0 where there is none.
+fn first_fault(a: u32, b: u32) -> u32
+    ensures { λ r. ⌜ r ≡ firstFault a b ⌝ }
+{
+    if a == UNUSED_NOT_ZERO {
+        return UNUSED_NOT_ZERO;
+    }
+    if b == UNUSED_NOT_ZERO {
+        return UNUSED_NOT_ZERO;
+    }
+    if a == CHILD_NOT_BELOW {
+        return CHILD_NOT_BELOW;
+    }
+    if b == CHILD_NOT_BELOW {
+        return CHILD_NOT_BELOW;
+    }
+    if a == SYMBOL_OUTSIDE {
+        return SYMBOL_OUTSIDE;
+    }
+    if b == SYMBOL_OUTSIDE {
+        return SYMBOL_OUTSIDE;
+    }
+    0
 }
 
 // The refusal number of node `i`, 0 where its record is right.
@@ -208,13 +255,9 @@ pub fn fault(options: u32, i: usize, node: Node) -> u32
 {
     let kind = node.kind;
     if !is_known(kind) {
-        return 3;
+        return UNKNOWN_KIND;
     }
-    if !is_right(options, i, use_of_a(kind), node.a) {
-        return 3;
-    }
-    if !is_right(options, i, use_of_b(kind), node.b) {
-        return 3;
-    }
-    0
+    let a = field_fault(options, i, use_of_a(kind), node.a);
+    let b = field_fault(options, i, use_of_b(kind), node.b);
+    first_fault(a, b)
 }

@@ -7,9 +7,9 @@ use Prim.Native.Nat.{ℕ, _+_, _*_, _<_, _≤_, _/_, _%_}
 use native.Mathlib.Omega.{arith}
 use lib.Dec.{eqb, leb, ltb}
 use lib.ListN.{length, List·getD-eq-default}
-use borrow.Author.Tests.{eqb-true, eqb-false, ltb-true, ltb-false, leb-true, not-false}
+use borrow.Author.Tests.{eqb-true, eqb-false, eq-eqb, ltb-true, ltb-false, leb-true, not-false}
 use Rattle.answer.specs.declared.Answer.the-variants.{Accepted, TableLength, Options, Record}
-use Rattle.laws.proofs.Choices.{neither}
+use Rattle.laws.proofs.Choices.{both, neither}
 use Rattle.laws.proofs.First.{first-before, first-fails}
 use Rattle.answer.specs.Answers.{refuses}
 use Rattle.answer.proofs.Laws.Order.{passes}
@@ -17,6 +17,7 @@ use Rattle.formula.specs.Tables.{nodeBytes, mostNodes, mostOptions, node
 use Rattle.formula.specs.Tables.{fieldRight, faultOf}
 use Rattle.formula.specs.Inner.Right.{FieldBelow, Below, WellFormed, RightLength}
 use Rattle.formula.specs.Checks.{lengthWrong, recordRight, firstWrong, checked}
+use Rattle.formula.proofs.Laws.Faults.{no-fault}
 use Rattle.formula.proofs.Laws.Tables.{length-nodesOf, nodeIn-nodesOf}
 use Rattle.formula.specs.declared.node.Kind.{Kind}
 use Rattle.formula.specs.declared.node.Kind.the-variants.{Symbol}
@@ -77,13 +78,9 @@ length-right t v e = right-length (length t) (passed t v e .lengths)
 -- what a right record says
 right-record : (v i : ℕ) (n : Node) → faultOf v i n ≡ 0 → (fieldRight v i (useOfA (n .kind)) (n .a) ≡ true)
     × (fieldRight v i (useOfB (n .kind)) (n .b) ≡ true)
-right-record v i n e = go (known (n .kind)) (fieldRight v i (useOfA (n .kind)) (n .a)) (fieldRight v i (useOfB (n .kind)) (n .b)) e
-  where
-    go : (k a b : Bool) → _≡_ {A = ℕ} (cond k (cond a (cond b 0 3) 3) 3) 0 → (a ≡ true) × (b ≡ true)
-    go true true true q = (refl, refl)
-    go true true false q = absurd (omega arith)
-    go true false b q = absurd (omega arith)
-    go false a b q = absurd (omega arith)
+right-record v i n e =
+    let kept = sym (no-fault v i n) ∙ eq-eqb (faultOf v i n) 0 e in
+    both (fieldRight v i (useOfA (n .kind)) (n .a)) (fieldRight v i (useOfB (n .kind)) (n .b)) (both (known (n .kind)) _ kept .1)
 
 field-below : (v i : ℕ) (u : Use) (x : ℕ) → fieldRight v i u x ≡ true → FieldBelow i u x
 field-below v i held.Unused x e = tt
