@@ -8,7 +8,7 @@ use Rattle.laws.specs.Numbers.{little, littleAt}
 use Rattle.formula.specs.declared.node.Kind.{Kind}
 use Rattle.formula.specs.declared.node.Kind.the-variants.{False, True, Symbol, Not, And, Or, Implies, Equivalent, Unknown}
 use Rattle.formula.specs.declared.node.Node.{Node}
-use mathlib.Core.Bool.{Bool, true, false, cond, _||_}
+use mathlib.Core.Bool.{Bool, true, false, cond, not, _||_}
 use lib.Dec.{eqb, leb, ltb}
 use Rattle.formula.specs.declared.node.Use.{Use}
 use Rattle.formula.specs.declared.node.Kind.the-variants as kind
@@ -126,16 +126,15 @@ faultNumber held.Symbol = symbolOutside
 abbrev pub fieldFault : ℕ → ℕ → Use → ℕ → ℕ
 fieldFault v i u x = cond (fieldRight v i u x) 0 (faultNumber u)
 
--- of the faults of two fields the one that is looked at first, 0 for none
-abbrev pub firstFault : ℕ → ℕ → ℕ
-firstFault a b =
-    cond (eqb a unusedNotZero || eqb b unusedNotZero) unusedNotZero
+-- R10.12: of the faults of a kind, known or not, and of two fields the one that is looked at first, 0 for none
+abbrev pub firstFault : Bool → ℕ → ℕ → ℕ
+firstFault known a b =
+    cond (not known) unknownKind
+    (cond (eqb a unusedNotZero || eqb b unusedNotZero) unusedNotZero
     (cond (eqb a childNotBelow || eqb b childNotBelow) childNotBelow
-    (cond (eqb a symbolOutside || eqb b symbolOutside) symbolOutside 0))
+    (cond (eqb a symbolOutside || eqb b symbolOutside) symbolOutside 0)))
 
--- R10.12: the number of the refusal that node i earns, 0 for none; the kind is looked at first
+-- the number of the refusal that node i earns, 0 for none
 abbrev pub faultOf : ℕ → ℕ → Node → ℕ
 faultOf v i n =
-    cond (known (n .kind))
-    (firstFault (fieldFault v i (useOfA (n .kind)) (n .a)) (fieldFault v i (useOfB (n .kind)) (n .b)))
-    unknownKind
+    firstFault (known (n .kind)) (fieldFault v i (useOfA (n .kind)) (n .a)) (fieldFault v i (useOfB (n .kind)) (n .b))

@@ -1,11 +1,13 @@
 // A node of the formula table: its record, read and written here and nowhere else, and the rule that a record keeps.
+ghost use mathlib.Core.Bool.{_||_};
 ghost use mathlib.Core.Path.{_≡_};
 ghost use Prim.Native.Nat.{_+_, _<_, _≤_};
+ghost use lib.Dec.{eqb};
 ghost use lib.ListN.{length};
 ghost use Rattle.laws.specs.Lists.{splice};
 ghost use Rattle.laws.specs.Numbers.{little, littleAt};
 ghost use Rattle.formula.specs.Tables.{fieldBytes, nodeBytes, kindOf, nodeAt, nodeCount, nodeRecord, known, useOfA, useOfB};
-ghost use Rattle.formula.specs.Tables.{fieldFault, firstFault, faultOf};
+ghost use Rattle.formula.specs.Tables.{fieldRight, faultNumber, fieldFault, firstFault, faultOf};
 
 // Bytes of a field, and of a node: its kind and two fields.
 pub const FIELD_BYTES: usize = 2;
@@ -195,55 +197,71 @@ fn use_of_b(kind: Kind) -> Use
     }
 }
 
-// The fault of a field of node `i`, for what it holds; 0 where it is right.
-fn field_fault(options: u32, i: usize, held: Use, field: usize) -> u32
-    ensures { λ r. ⌜ r ≡ fieldFault options i held field ⌝ }
+// Whether a field of node `i` is right, for what it holds.
+fn is_right(options: u32, i: usize, held: Use, field: usize) -> bool
+    ensures { λ r. ⌜ r ≡ fieldRight options i held field ⌝ }
 {
     match held {
-        Use::Unused => {
-            if field == 0 {
-                return 0;
-            }
-            UNUSED_NOT_ZERO
-        }
-        Use::Child => {
-            if field < i {
-                return 0;
-            }
-            CHILD_NOT_BELOW
-        }
+        Use::Unused => field == 0,
+        Use::Child => field < i,
         Use::Symbol => {
             if field == 0 {
-                return SYMBOL_OUTSIDE;
+                return false;
             }
-            if field <= options as usize {
-                return 0;
-            }
-            SYMBOL_OUTSIDE
+            field <= options as usize
         }
     }
 }
 
-// Of the faults of two fields the one that is looked at first, 0 where there is none.
-fn first_fault(a: u32, b: u32) -> u32
-    ensures { λ r. ⌜ r ≡ firstFault a b ⌝ }
+// The fault of a field that is not right.
+fn number_of(held: Use) -> u32
+    ensures { λ r. ⌜ r ≡ faultNumber held ⌝ }
 {
-    if a == UNUSED_NOT_ZERO {
+    match held {
+        Use::Unused => UNUSED_NOT_ZERO,
+        Use::Child => CHILD_NOT_BELOW,
+        Use::Symbol => SYMBOL_OUTSIDE,
+    }
+}
+
+// The fault of a field of node `i`, 0 where it is right.
+fn field_fault(options: u32, i: usize, held: Use, field: usize) -> u32
+    ensures { λ r. ⌜ r ≡ fieldFault options i held field ⌝ }
+{
+    if is_right(options, i, held, field) {
+        return 0;
+    }
+    number_of(held)
+}
+
+// Whether one of two faults is a number's.
+fn is_either(a: u32, b: u32, number: u32) -> bool
+    ensures { λ r. ⌜ r ≡ (eqb a number || eqb b number) ⌝ }
+{
+    if a == number {
+        return true;
+    }
+    b == number
+}
+
+// Of the faults of a kind and two fields the one that is looked at first, 0 where there is none.
+fn first_fault(known: bool, a: u32, b: u32) -> u32
+    ensures { λ r. ⌜ r ≡ firstFault known a b ⌝ }
+{
+    let unused = is_either(a, b, UNUSED_NOT_ZERO);
+    let child = is_either(a, b, CHILD_NOT_BELOW);
+    let symbol = is_either(a, b, SYMBOL_OUTSIDE);
+    let unknown = !known;
+    if unknown {
+        return UNKNOWN_KIND;
+    }
+    if unused {
         return UNUSED_NOT_ZERO;
     }
-    if b == UNUSED_NOT_ZERO {
-        return UNUSED_NOT_ZERO;
-    }
-    if a == CHILD_NOT_BELOW {
+    if child {
         return CHILD_NOT_BELOW;
     }
-    if b == CHILD_NOT_BELOW {
-        return CHILD_NOT_BELOW;
-    }
-    if a == SYMBOL_OUTSIDE {
-        return SYMBOL_OUTSIDE;
-    }
-    if b == SYMBOL_OUTSIDE {
+    if symbol {
         return SYMBOL_OUTSIDE;
     }
     0
@@ -254,10 +272,7 @@ pub fn fault(options: u32, i: usize, node: Node) -> u32
     ensures { λ r. ⌜ r ≡ faultOf options i node ⌝ }
 {
     let kind = node.kind;
-    if !is_known(kind) {
-        return UNKNOWN_KIND;
-    }
     let a = field_fault(options, i, use_of_a(kind), node.a);
     let b = field_fault(options, i, use_of_b(kind), node.b);
-    first_fault(a, b)
+    first_fault(is_known(kind), a, b)
 }
