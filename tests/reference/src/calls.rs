@@ -179,7 +179,7 @@ mod tests {
         );
         assert_eq!(
             answer("check 1 0202000000 16").unwrap(),
-            "3 03000000000000000000000000000000"
+            "14 0e000000000000000000000000000000"
         );
         assert_eq!(answer("check 1 0202000000 3").unwrap(), "11 0b3055");
         assert_eq!(answer("check 32001 - -").unwrap(), "11 -");
@@ -254,12 +254,12 @@ mod tests {
             format!("0 {moved} 00000000{part}06000000")
         );
         assert!(of("2 32000", "00000100", 90).ends_with(" 0000000000000000017d000006000000"));
-        // 1, 2 and 3 by the options come first, then 2 for what is taken, then 4.
+        // By the options come 1, 2, and 3, 12, 13 or 14; then 2 for what is taken, then 4.
         let refused = |number: u8, place: u8| {
-            format!("{number} 05 0{number}0000000{place}0000000000000000000000")
+            format!("{number} 05 {number:02x}000000{place:02x}0000000000000000000000")
         };
-        assert_eq!(of("1 0", "00000101", 1), refused(3, 1));
-        assert_eq!(of("1 2", "00000101", 1), refused(3, 1));
+        assert_eq!(of("1 0", "00000101", 1), refused(14, 1));
+        assert_eq!(of("1 2", "00000101", 1), refused(14, 1));
         assert_eq!(of("2 1", "00000101", 1), refused(2, 0));
         assert_eq!(of("2 32001", "00000101", 1), refused(2, 0));
         assert_eq!(of("32001 2", "00000101", 1), refused(2, 0));
@@ -300,7 +300,7 @@ mod tests {
     fn marks_and_sets_are_answered_without_an_answer_part() {
         let table = "020100000003000000000401000100";
         assert_eq!(answer(&format!("marks 1 {table}")).unwrap(), "0 0 020101");
-        assert_eq!(answer(&format!("marks 0 {table}")).unwrap(), "3 0");
+        assert_eq!(answer(&format!("marks 0 {table}")).unwrap(), "14 0");
         assert_eq!(answer(&format!("set 1 {table} 000100")).unwrap(), "0 0");
         assert_eq!(answer(&format!("set 1 {table} 000101")).unwrap(), "4 2");
         assert_eq!(answer(&format!("set 1 {table} =")).unwrap(), "4 3");

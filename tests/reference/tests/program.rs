@@ -91,7 +91,12 @@ fn other_refusals_come_after_the_lines() {
     refused("options|32001\n0|1|0|0\n", 2, 0);
     refused("options|65535\n0|255|0|0\n", 2, 0);
     refused("options|1\n0|255|0|0\n", 3, 0);
-    refused("options|1\n0|2|1|0\n1|3|65535|65535\n", 3, 1);
+    refused("options|1\n0|2|1|0\n1|3|65535|65535\n", 12, 1);
+    refused("options|1\n0|2|1|0\n1|3|65535|0\n", 13, 1);
+    refused("options|1\n0|2|1|0\n1|4|0|1\n", 13, 1);
+    refused("options|1\n0|2|1|0\n1|2|0|0\n", 14, 1);
+    refused("options|1\n0|2|1|0\n1|2|2|0\n2|255|0|0\n", 14, 1);
+    refused("options|1\n0|2|1|1\n1|255|0|0\n", 12, 0);
     refused("options|65535\n0|255|0|0\n1|3|0\n", 10, 3);
 }
 
