@@ -1,7 +1,7 @@
 //! Requests that convert, by themselves and after other guards.
 
 use crate::field::{answer_part, input, output, room};
-use crate::formula::{over_options, small_formula, Formula};
+use crate::formula::{over_options, small_formula, with_wrong_records, Formula};
 use crate::random::Random;
 use crate::set::set;
 use reference::fast_choose::fast_choose;
@@ -83,6 +83,9 @@ impl Chain {
             // By mistake the guard names a variable that is no option, or is none yet.
             let helper = random.between(self.options as usize + 1, self.taken as usize + 1);
             formula.rename_symbol(random, helper as u16);
+        }
+        if random.percent(7) {
+            formula = with_wrong_records(random, formula);
         }
         let set = some_set(random, &formula);
         let bytes = needed(&formula, &set);

@@ -1,8 +1,9 @@
 //! Tables as requests lend them, each part of which may be at fault.
 
 use crate::ceiling;
+use crate::damage::damage;
 use crate::random::Random;
-use crate::table::{bytes, constants, damage, node_count, reached, right, Node, MOST_NODES};
+use crate::table::{bytes, constants, node_count, reached, right, Node, MOST_NODES};
 
 /// A table with its option count. The nodes are what it was made of, before any fault of length.
 pub struct Formula {
@@ -69,9 +70,10 @@ pub fn small_formula(random: &mut Random) -> Formula {
         700..=849 => from_nodes(constants(random, options, small), options),
         _ => from_nodes(ceiling::near(random), options),
     };
-    match random.percent(8) {
-        true => damaged(random, formula),
-        false => formula,
+    match random.below(100) {
+        0..=7 => damaged(random, formula),
+        8..=17 => with_wrong_records(random, formula),
+        _ => formula,
     }
 }
 
@@ -85,13 +87,17 @@ pub fn over_options(random: &mut Random, options: u32) -> Formula {
     }
 }
 
+/// A formula with one wrong record or several.
+pub fn with_wrong_records(random: &mut Random, mut formula: Formula) -> Formula {
+    damage(random, formula.options, &mut formula.nodes);
+    formula.table = bytes(&formula.nodes);
+    formula
+}
+
 fn damaged(random: &mut Random, mut formula: Formula) -> Formula {
     let right_options = formula.options;
     if random.percent(40) {
-        for _ in 0..random.pick(&[1, 1, 1, 3]) {
-            damage(random, right_options, &mut formula.nodes);
-        }
-        formula.table = bytes(&formula.nodes);
+        formula = with_wrong_records(random, formula);
     }
     if random.percent(10) {
         formula.table = wrong_length(random, right_options, &formula.nodes);

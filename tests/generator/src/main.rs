@@ -4,6 +4,7 @@
 mod ceiling;
 mod clause_bytes;
 mod conversion;
+mod damage;
 mod dimacs_text;
 mod field;
 mod formula;

@@ -180,6 +180,8 @@ fn program(random: &mut Random) -> String {
 #[cfg(test)]
 mod tests {
     use super::*;
+    use reference::{node_file, protocol::Fields, table};
+    use std::collections::BTreeMap;
 
     fn requests(seed: u64, operation: &str) -> Vec<String> {
         let (mut random, mut chain) = (Random::new(seed), Chain::default());
@@ -239,6 +241,75 @@ mod tests {
                 tables.iter().any(|table| table.len() == 2 * length),
                 "{length} bytes"
             );
+        }
+    }
+
+    /// The option count and the table of a request. None where its node file has none.
+    fn lent(request: &str) -> Option<(u32, Vec<u8>)> {
+        let mut fields = Fields::new(request);
+        let operation = fields.word().unwrap();
+        if operation == "program" {
+            return node_file::read(&fields.input().unwrap()).ok();
+        }
+        let options = fields.number().unwrap();
+        if ["choose", "convert_after"].contains(&operation) {
+            fields.number().unwrap();
+        }
+        Some((options, fields.input().unwrap()))
+    }
+
+    /// The number and the node of the refusal, where it is one for a record.
+    fn wrong_record(table: &[u8], options: u32) -> Option<(u32, usize)> {
+        let refusal = table::check(table, options).err()?;
+        match refusal.number {
+            3 | 12 | 13 | 14 => Some((refusal.number, refusal.place as usize)),
+            _ => None,
+        }
+    }
+
+    /// What node `number` is, and whether its a and its b are at fault. For an unknown kind, whether they are set.
+    fn faults(table: &[u8], options: u32, number: usize) -> (&'static str, bool, bool) {
+        let record = &table[5 * number..5 * number + 5];
+        let a = usize::from(u16::from_le_bytes([record[1], record[2]]));
+        let b = usize::from(u16::from_le_bytes([record[3], record[4]]));
+        match record[0] {
+            0 | 1 => ("constant", a != 0, b != 0),
+            2 => ("symbol", a == 0 || a > options as usize, b != 0),
+            3 => ("not", a >= number, b != 0),
+            4..=7 => ("operator", a >= number, b >= number),
+            _ => ("unknown", a != 0, b != 0),
+        }
+    }
+
+    #[test]
+    fn every_fault_of_a_record_and_every_two_are_asked_of_all_that_check_a_table() {
+        for operation in [
+            "check",
+            "marks",
+            "set",
+            "measure",
+            "choose",
+            "convert",
+            "convert_after",
+            "program",
+        ] {
+            let (mut alone, mut followed) = (BTreeMap::new(), BTreeMap::new());
+            let requests = requests(1, operation);
+            for (options, mut table) in requests.iter().filter_map(|request| lent(request)) {
+                if let Some((first, node)) = wrong_record(&table, options) {
+                    let faults = faults(&table, options, node);
+                    *alone.entry(faults).or_insert(0) += 1;
+                    // With true in its place the next wrong record decides.
+                    table[5 * node..5 * node + 5].copy_from_slice(&[1, 0, 0, 0, 0]);
+                    let next = wrong_record(&table, options).map(|(next, _)| next);
+                    *followed.entry((first, next)).or_insert(0) += 1;
+                }
+            }
+            // Four kinds with a fault in a, in b or in both, and four ways to set the fields of an unknown kind.
+            let often = alone.values().all(|&count| count > 5);
+            assert!(alone.len() == 16 && often, "{operation}: {alone:?}");
+            // Each of the four numbers by itself, and with each of the four behind it.
+            assert_eq!(followed.len(), 20, "{operation}: {followed:?}");
         }
     }
 

@@ -1,4 +1,4 @@
-//! Right tables, and tables damaged in one field.
+//! Right tables.
 
 use crate::random::Random;
 
@@ -13,14 +13,14 @@ pub struct Node {
 
 /// What a field of a node holds.
 #[derive(Clone, Copy, PartialEq)]
-enum Field {
+pub enum Field {
     Unused,
     Symbol,
     Child,
 }
 
 impl Node {
-    fn fields(self) -> [Field; 2] {
+    pub fn fields(self) -> [Field; 2] {
         match self.kind {
             2 => [Field::Symbol, Field::Unused],
             3 => [Field::Child, Field::Unused],
@@ -167,39 +167,8 @@ fn right_node(
     }
 }
 
-/// Changes one field of one node. Another known kind may be right; all else is wrong.
-pub fn damage(random: &mut Random, options: u32, nodes: &mut [Node]) {
-    let number = random.below(nodes.len());
-    let node = &mut nodes[number];
-    let [a, b] = node.fields();
-    let unknown = random.between(8, 255) as u8;
-    let turned = random.between(1, 7) as u8;
-    match random.below(6) {
-        0 => node.kind = random.pick(&[8, unknown, 255]),
-        1 => node.kind = (node.kind % 8 + turned) % 8,
-        2 | 3 => node.a = wrong_value(random, a, options, number),
-        _ => node.b = wrong_value(random, b, options, number),
-    }
-}
-
-/// A value that a field of node `number` may not have.
-fn wrong_value(random: &mut Random, field: Field, options: u32, number: usize) -> u16 {
-    let most = usize::from(u16::MAX);
-    let past = options as usize + 1;
-    let wrong = match field {
-        Field::Unused => [1, 256, random.between(1, most), most],
-        Field::Symbol => [0, 0, past, random.between(past, most)],
-        Field::Child => {
-            // Its low byte may be that of a right child.
-            let high = random.between(0, number) + MOST_NODES;
-            [number, number + 1, high, random.between(number, most)]
-        }
-    };
-    random.pick(&wrong) as u16
-}
-
 #[cfg(test)]
-mod tests {
+pub mod tests {
     use super::*;
 
     fn is_right(node: Node, number: usize, options: u32) -> bool {
@@ -216,7 +185,7 @@ mod tests {
                 .all(field_is_right)
     }
 
-    fn wrong_nodes(nodes: &[Node], options: u32) -> usize {
+    pub fn wrong_nodes(nodes: &[Node], options: u32) -> usize {
         (0..nodes.len())
             .filter(|&number| !is_right(nodes[number], number, options))
             .count()
@@ -244,40 +213,6 @@ mod tests {
             let parents = nodes.iter().flat_map(|node| node.children());
             let seen: std::collections::BTreeSet<usize> = parents.collect();
             assert_eq!(seen.len(), nodes.len() - 1);
-        }
-    }
-
-    #[test]
-    fn a_wrong_value_makes_its_node_wrong() {
-        let mut random = Random::new(2);
-        for turn in 0..2_000 {
-            let options = random.pick(&[0, 5, 32_000]);
-            let mut nodes = right(&mut random, options, 1 + turn % 40);
-            let number = random.below(nodes.len());
-            let [a, _] = nodes[number].fields();
-            nodes[number].a = wrong_value(&mut random, a, options, number);
-            assert_eq!(wrong_nodes(&nodes, options), 1);
-        }
-    }
-
-    #[test]
-    fn damage_changes_one_field() {
-        let mut random = Random::new(3);
-        for _ in 0..500 {
-            let before = right(&mut random, 9, 30);
-            let mut after = before.clone();
-            damage(&mut random, 9, &mut after);
-            let fields = |nodes: &[Node]| -> Vec<u16> {
-                nodes
-                    .iter()
-                    .flat_map(|node| [u16::from(node.kind), node.a, node.b])
-                    .collect()
-            };
-            let changed = fields(&before)
-                .into_iter()
-                .zip(fields(&after))
-                .filter(|(old, new)| old != new);
-            assert_eq!(changed.count(), 1);
         }
     }
 
