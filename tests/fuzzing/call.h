@@ -23,6 +23,12 @@ inline uint32_t number_at(const Bytes &bytes, size_t at)
     return simbolufa_read_number(bytes.data() + at);
 }
 
+// Whether a refusal is one for a record: its kind, an unused field, a child, a symbol.
+inline bool is_for_a_record(uint32_t number)
+{
+    return number == 3 || (number >= 12 && number <= 14);
+}
+
 inline Bytes filled(size_t length, size_t factor, size_t first)
 {
     Bytes bytes(length);
@@ -104,7 +110,8 @@ public:
         Said said{number_at(bytes, 0), number_at(bytes, 4), number_at(bytes, 8), number_at(bytes, 12)};
         must(said.number == result, "the answer part has another number than the call returned");
         must(result == 0 || (said.first == 0 && said.second == 0), "a refusal has a value");
-        must(result == 3 || result == 4 || result == 8 || said.place == 0, "a place where there is none");
+        bool has_place = is_for_a_record(result) || result == 4 || result == 8;
+        must(has_place || said.place == 0, "a place where there is none");
         return said;
     }
 

@@ -49,8 +49,8 @@ Said check(const Case &from, const Formula &formula)
     Lent &answer = call.answer_part(from.answer_length());
     uint32_t result = simbolufa_check(table.data(), table.size(), formula.options, answer.data(), answer.size());
     Said said = call.made(result, 0);
-    must(result <= 3 || result == 11, "check: no such refusal");
-    must(result != 3 || said.place < formula.nodes(), "check: a place outside the table");
+    must(result <= 2 || is_for_a_record(result) || result == 11, "check: no such refusal");
+    must(!is_for_a_record(result) || said.place < formula.nodes(), "check: a place outside the table");
     call.ask_reference(result);
     return said;
 }
@@ -65,7 +65,7 @@ Said measure(const Case &from, const Formula &formula, size_t answer_length)
     uint32_t result = simbolufa_measure(table.data(), table.size(), formula.options, set.data(), set.size(),
                                         answer.data(), answer.size());
     Said said = call.made(result, 0);
-    must(result <= 4 || result == 11, "measure: no such refusal");
+    must(result <= 4 || is_for_a_record(result) || result == 11, "measure: no such refusal");
     must(said.first <= clause_ceiling && said.second <= literal_ceiling, "measure: a total above its ceiling");
     must(said.first < clause_ceiling || said.second == literal_ceiling, "measure: a literal total that is not stated");
     if (formula.is_asked())
@@ -85,7 +85,7 @@ Bytes choose(const Case &from, const Formula &formula, size_t set_length, size_t
     uint32_t result = simbolufa_choose(table.data(), table.size(), formula.options, from.allowance(), set.data(),
                                        set.size(), answer.data(), answer.size());
     Said said = call.made(result, set.size());
-    must(result <= 4 || result == 11, "choose: no such refusal");
+    must(result <= 4 || is_for_a_record(result) || result == 11, "choose: no such refusal");
     if (formula.is_asked())
         call.ask_reference(result);
     if (result != 0)
