@@ -28,15 +28,32 @@ struct Formula {
     bool is_asked() const { return table.size() <= longest_asked_table; }
 };
 
+// What check says of a formula's table.
+simbolufa_answer checked(const Formula &formula)
+{
+    uint8_t part[SIMBOLUFA_ANSWER_LENGTH];
+    simbolufa_check(formula.table.data(), formula.table.size(), formula.options, part, sizeof part);
+    return simbolufa_read_answer(part);
+}
+
+// Whether a call that looks at the table and the set refuses the table as check does, and else at most the set.
+bool refuses_as_check(const Formula &formula, const Said &said)
+{
+    simbolufa_answer table = checked(formula);
+    if (said.number == 11)
+        return true;
+    if (table.number == 0)
+        return said.number == 0 || said.number == 4;
+    return said.number == table.number && said.place == table.place;
+}
+
 Formula formula_of(const Case &from)
 {
     Formula formula{from.number(), from.first(), from.second()};
     if (from.tames_first())
         formula.table = tamed_table(formula.table, formula.options);
     // A set can be tamed where the table is right.
-    uint8_t part[SIMBOLUFA_ANSWER_LENGTH];
-    bool right = simbolufa_check(formula.table.data(), formula.table.size(), formula.options, part, sizeof part) == 0;
-    if (from.tames_second() && right)
+    if (from.tames_second() && checked(formula).number == 0)
         formula.set = tamed_set(formula.set, formula.table);
     return formula;
 }
@@ -65,7 +82,7 @@ Said measure(const Case &from, const Formula &formula, size_t answer_length)
     uint32_t result = simbolufa_measure(table.data(), table.size(), formula.options, set.data(), set.size(),
                                         answer.data(), answer.size());
     Said said = call.made(result, 0);
-    must(result <= 4 || is_for_a_record(result) || result == 11, "measure: no such refusal");
+    must(refuses_as_check(formula, said), "measure: another refusal of the table than check's");
     must(said.first <= clause_ceiling && said.second <= literal_ceiling, "measure: a total above its ceiling");
     must(said.first < clause_ceiling || said.second == literal_ceiling, "measure: a literal total that is not stated");
     if (formula.is_asked())
@@ -85,7 +102,7 @@ Bytes choose(const Case &from, const Formula &formula, size_t set_length, size_t
     uint32_t result = simbolufa_choose(table.data(), table.size(), formula.options, from.allowance(), set.data(),
                                        set.size(), answer.data(), answer.size());
     Said said = call.made(result, set.size());
-    must(result <= 4 || is_for_a_record(result) || result == 11, "choose: no such refusal");
+    must(refuses_as_check(formula, said), "choose: another refusal of the table than check's");
     if (formula.is_asked())
         call.ask_reference(result);
     if (result != 0)
@@ -146,6 +163,7 @@ Bytes convert(const Case &from, const Formula &formula, Taken after, size_t answ
                         : out.size() < needed                      ? 7
                                                                    : 0;
     must(result == expected, "convert: another number than the totals and the room say");
+    must(result != totals.number || said.place == totals.place, "convert: another place than measure's");
     if (formula.is_asked() && out.size() <= longest_asked_output)
         call.ask_reference(result);
     if (result != 0)
