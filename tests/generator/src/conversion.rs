@@ -1,7 +1,7 @@
 //! Requests that convert, by themselves and after other guards.
 
 use crate::field::{answer_part, input, output, room};
-use crate::formula::{over_options, small_formula, with_wrong_records, Formula};
+use crate::formula::{over_options, small_formula, with_damaged_records, Formula};
 use crate::random::Random;
 use crate::set::set;
 use reference::fast_choose::fast_choose;
@@ -85,7 +85,7 @@ impl Chain {
             formula.rename_symbol(random, helper as u16);
         }
         if random.percent(7) {
-            formula = with_wrong_records(random, formula);
+            formula = with_damaged_records(random, formula);
         }
         let set = some_set(random, &formula);
         let bytes = needed(&formula, &set);

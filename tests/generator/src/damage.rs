@@ -42,6 +42,7 @@ fn some_number(random: &mut Random, nodes: &[Node]) -> usize {
 /// Changes the record of node `number`. With another known kind it may be right; all else is wrong.
 fn damage_record(random: &mut Random, options: u32, number: usize, node: &mut Node) {
     let [a, b] = node.fields();
+    // The fault that only symbols have decides where a alone is wrong.
     let [changes_kind, changes_a, changes_b] = match a == Field::Symbol && random.percent(40) {
         true => [false, true, false],
         false => random.pick(&CHANGES),

@@ -72,7 +72,7 @@ pub fn small_formula(random: &mut Random) -> Formula {
     };
     match random.below(100) {
         0..=7 => damaged(random, formula),
-        8..=17 => with_wrong_records(random, formula),
+        8..=17 => with_damaged_records(random, formula),
         _ => formula,
     }
 }
@@ -87,8 +87,8 @@ pub fn over_options(random: &mut Random, options: u32) -> Formula {
     }
 }
 
-/// A formula with one wrong record or several.
-pub fn with_wrong_records(random: &mut Random, mut formula: Formula) -> Formula {
+/// A formula in which one record or several are damaged.
+pub fn with_damaged_records(random: &mut Random, mut formula: Formula) -> Formula {
     damage(random, formula.options, &mut formula.nodes);
     formula.table = bytes(&formula.nodes);
     formula
@@ -97,7 +97,7 @@ pub fn with_wrong_records(random: &mut Random, mut formula: Formula) -> Formula 
 fn damaged(random: &mut Random, mut formula: Formula) -> Formula {
     let right_options = formula.options;
     if random.percent(40) {
-        formula = with_wrong_records(random, formula);
+        formula = with_damaged_records(random, formula);
     }
     if random.percent(10) {
         formula.table = wrong_length(random, right_options, &formula.nodes);
