@@ -4,3 +4,4 @@ pub mod Outputs
 pub mod Meanings
 pub mod Chains
 pub mod Demands
+pub mod Faults

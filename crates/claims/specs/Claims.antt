@@ -8,12 +8,12 @@ use Prim.Native.Nat.{ℕ, _≤_, _<_}
 use lib.Dec.{T}
 use lib.ListN.{length, getD, take, replicate}
 use Rattle.laws.specs.Lists.{Every}
-use Rattle.answer.specs.Answers.{toldOf, bytesOf}
+use Rattle.answer.specs.Answers.{toldOf, bytesOf, refused}
 use Rattle.answer.specs.declared.Answer.{Answer}
 use Rattle.answer.specs.declared.Answer.the-variants.{Accepted}
-use Rattle.formula.specs.Checks.{checked}
+use Rattle.formula.specs.Checks.{lengthWrong, checked}
 use Rattle.marks.specs.Sets.{renamed}
-use Rattle.formula.specs.Tables.{nodeIn}
+use Rattle.formula.specs.Tables.{mostOptions, nodeAt, nodeCount, nodeIn, faultOf}
 use Rattle.formula.specs.Truths.{formulaTrue}
 use Rattle.formula.specs.declared.node.Kind.the-variants.{Symbol}
 use Rattle.clausal.specs.Totals.{Choice, choose, totalUnder, totals}
@@ -50,6 +50,27 @@ pub record Demand1 : Type 0 where
       Answers (convertedAfter (g .table) (g .options) (g .taken) (g .set) (afterSeen c .before) .answer) (afterSeen c)
   pub write : (c : Write) → Answers (writeCall (clauseBytes c) (declared c) (writeSeen c .before) .answer) (writeSeen c)
   pub read : (c : Read) → Answers (readCall (textOf c) (readSeen c .before) .answer) (readSeen c)
+
+-- R10.24: the length of a table and V are right, and its lowest faulty node is j
+pub record Faulty (g : Guard) (j : ℕ) : Type 0 where
+  pub lengths : lengthWrong (length (g .table)) ≡ false
+  pub options : g .options ≤ mostOptions
+  pub within : j < nodeCount (g .table)
+  pub below : (i : ℕ) → i < j → faultOf (g .options) i (nodeAt (g .table) i) ≡ 0
+  pub here : faultOf (g .options) j (nodeAt (g .table) j) ≢ 0
+
+-- a call with a right part returns the fault of node j and tells it with its place, whatever else was handed over
+abbrev pub TellsFault : {O : Type 0} → Guard → ℕ → Seen O → Type 0
+TellsFault g j s = let fault = faultOf (g .options) j (nodeAt (g .table) j) in
+    length (s .part) ≡ 16 → (s .returned ≡ fault) × (s .told ≡ bytesOf (refused fault j))
+
+-- R10.26: every call that is handed a table passes its fault on
+pub record Faults : Type 0 where
+  pub check : (c : Check) (j : ℕ) → Faulty (checkGuard c) j → TellsFault (checkGuard c) j (checkSeen c)
+  pub measure : (c : Measure) (j : ℕ) → Faulty (measureGuard c) j → TellsFault (measureGuard c) j (measureSeen c)
+  pub choose : (c : Choose) (j : ℕ) → Faulty (chooseGuard c) j → TellsFault (chooseGuard c) j (chooseSeen c)
+  pub convert : (c : Convert) (j : ℕ) → Faulty (convertGuard c) j → TellsFault (convertGuard c) j (convertSeen c)
+  pub convertAfter : (c : ConvertAfter) (j : ℕ) → Faulty (afterGuard c) j → TellsFault (afterGuard c) j (afterSeen c)
 
 -- a call that accepted tells two values, and leaves the outputs so
 pub record Gives {O : Type 0} (s : Seen O) (x y : ℕ) (after : O) : Type 0 where

@@ -20,7 +20,7 @@ use Rattle.clausal.specs.Output.{outputOf}
 abbrev pub measuredUnder : Renaming → List Node → Answer
 measuredUnder u ns = after (setChecked ns (u .set)) (Accepted (totals u ns .clauses) (totals u ns .literals))
 
--- refusals 1 to 3 first
+-- refusals 1, 2, and those of a wrong record first
 abbrev pub measured : List ℕ → ℕ → List ℕ → Answer
 measured t v s = after (checked t v) (measuredUnder (renaming v s) (nodesOf t))
 
@@ -35,7 +35,7 @@ chosenUnder v ns allowance before =
     (told (renaming v []) ns (choose allowance (renaming v []) ns))
     (record { answer = Set (length ns); output = before })
 
--- refusals 1 to 3 first
+-- refusals 1, 2, and those of a wrong record first
 abbrev pub chosenBy : List ℕ → ℕ → ℕ → List ℕ → Wrote (List ℕ)
 chosenBy t v allowance before = afterwards (checked t v) before (chosenUnder v (nodesOf t) allowance before)
 
@@ -50,7 +50,7 @@ convertedUnder u ns before =
     (afterwards (ceilings (sizeOf (outputOf u ns))) before
     (stored (Accepted (variablesOf u (length ns)) (length (outputOf u ns))) (clausesBytes (outputOf u ns)) before))
 
--- refusals 1 to 3 first
+-- refusals 1, 2, and those of a wrong record first
 abbrev pub converted : List ℕ → ℕ → List ℕ → List ℕ → Wrote (List ℕ)
 converted t v s before = afterwards (checked t v) before (convertedUnder (renaming v s) (nodesOf t) before)
 

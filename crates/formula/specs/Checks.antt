@@ -1,4 +1,4 @@
--- R10.10 to R10.12: the check of a table.
+-- R10.10 to R10.12, R10.20 to R10.24: the check of a table.
 -- Assumes nothing: these are definitions.
 use mathlib.Core.Bool.{Bool, cond, not, _||_}
 use mathlib.Core.List.{List}
@@ -18,7 +18,7 @@ lengthWrong n = eqb n 0 || (not (eqb (n % nodeBytes) 0) || ltb mostTable n)
 abbrev pub recordRight : List ℕ → ℕ → ℕ → Bool
 recordRight t v i = eqb (faultOf v i (nodeAt t i)) 0
 
--- the lowest node whose record is wrong, or the node count
+-- R10.24: the lowest node whose record is wrong, or the node count
 abbrev pub firstWrong : List ℕ → ℕ → ℕ
 firstWrong t v = first (recordRight t v) (nodeCount t)
 

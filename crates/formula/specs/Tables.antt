@@ -103,7 +103,7 @@ fieldRight v i held.Unused x = eqb x 0
 fieldRight v i held.Child x = ltb x i
 fieldRight v i held.Symbol x = cond (eqb x 0) false (leb x v)
 
--- R10.12: the numbers of the faults of a record, in the order in which they are looked at
+-- R10.12, R10.20 to R10.22: the numbers of the faults of a record, in the order in which they are looked at
 abbrev pub unknownKind : ℕ
 unknownKind = 3
 
@@ -126,7 +126,7 @@ faultNumber held.Symbol = symbolOutside
 abbrev pub fieldFault : ℕ → ℕ → Use → ℕ → ℕ
 fieldFault v i u x = cond (fieldRight v i u x) 0 (faultNumber u)
 
--- R10.12: of the faults of a kind, known or not, and of two fields the one that is looked at first, 0 for none
+-- R10.23: of the faults of a kind, known or not, and of two fields the one that is looked at first, 0 for none
 abbrev pub firstFault : Bool → ℕ → ℕ → ℕ
 firstFault known a b =
     cond (not known) unknownKind

@@ -1,4 +1,4 @@
-// The check of a formula table: refusals 1 to 3.
+// The check of a formula table: refusals 1, 2, and those of a wrong record.
 ghost use mathlib.Core.Path.{_≡_};
 ghost use Prim.Native.Nat.{_≤_};
 ghost use lib.ListN.{length};

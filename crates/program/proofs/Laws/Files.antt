@@ -12,15 +12,16 @@ use Rattle.laws.proofs.Splices.{length-splice}
 use Rattle.laws.proofs.Stored.{take-stored}
 use Rattle.answer.specs.Answers.{toldOf, refuses, Wrote, stored}
 use Rattle.answer.specs.declared.Answer.{Answer}
-use Rattle.answer.specs.declared.Answer.the-variants.{Accepted, Line}
+use Rattle.answer.specs.declared.Answer.the-variants.{Accepted, Record, Line}
 use Rattle.answer.proofs.Laws.Order.{accepted-afterwards}
 use Rattle.answer.proofs.Laws.Part.{stored-fits}
+use Rattle.formula.specs.Checks.{checked}
 use Rattle.formula.specs.Tables.{nodeBytes, mostNodes, mostTable}
 use Rattle.nodefile.specs.Files.{lineOf, firstWrong, fileRight, fileNodes, fileTable, mostBytes, fileChecked, optionCount}
 use Rattle.nodefile.specs.Inner.Reads.{fileRead}
 use Rattle.nodefile.proofs.Laws.Files.{length-records}
 use Rattle.nodefile.proofs.Laws.Fits.{few-nodes, table-fits}
-use Rattle.program.specs.Printed.{unlessRefused, tablePrinted, printed}
+use Rattle.program.specs.Printed.{refusalLine, unlessRefused, tablePrinted, printed}
 use Rattle.program.proofs.Laws.Shows.{unless-checked}
 
 module _ (text : List ℕ) where
@@ -36,6 +37,12 @@ module _ (text : List ℕ) where
       go true b q r = let z : _≡_ {A = ℕ} 0 1 = cc in absurd (omega arith)
       go false true q r = (q, refl)
       go false false q r = let z : _≡_ {A = ℕ} 0 1 = cc in absurd (omega arith)
+
+  -- a fault of a record is printed with its number and its node
+  pub fault-printed : (number node : ℕ) → refuses (fileChecked text) ≡ false
+      → checked (fileTable text) (optionCount (lineOf text 0)) ≡ Record number node → refuses (Record number node) ≡ true
+      → printed text ≡ refusalLine (Record number node)
+  fault-printed number node r e f = rw (r, e, f)
 
   module _ (before : List ℕ) (size : length before ≡ mostTable) where
     -- there is room for its table
