@@ -1,7 +1,7 @@
 -- The kinds of an accepted table are known.
 -- Assumes nothing.
-use mathlib.Core.Path.{_≡_, refl, ap, _∙_}
-use mathlib.Core.Bool.{Bool, true, false, cond}
+use mathlib.Core.Path.{_≡_, ap, _∙_}
+use mathlib.Core.Bool.{true}
 use mathlib.Core.List.{List, []}
 use Prim.Native.Nat.{ℕ, _<_}
 use native.Mathlib.Decide.{decLt}
@@ -9,17 +9,11 @@ use native.Mathlib.Omega.{arith}
 use lib.ListN.{List·getD-eq-default}
 use Rattle.answer.specs.declared.Answer.the-variants.{Accepted}
 use Rattle.formula.specs.Checks.{checked}
-use Rattle.formula.specs.Tables.{nodeAt, nodeCount, nodesOf, nodeIn, known, faultOf}
+use Rattle.formula.specs.Tables.{nodeAt, nodeCount, nodesOf, nodeIn, known}
+use Rattle.formula.proofs.Laws.Faults.{keeps-of-no-fault}
 use Rattle.formula.proofs.Laws.Tables.{length-nodesOf, nodeIn-nodesOf}
 use Rattle.formula.proofs.Laws.WellFormed.{accepts}
 use Rattle.formula.specs.declared.node.Node.{Node}
-
-known-right : (v i : ℕ) (n : Node) → faultOf v i n ≡ 0 → known (n .kind) ≡ true
-known-right v i n e = go (known (n .kind)) _ e
-  where
-    go : (k : Bool) (fault : ℕ) → cond k fault 3 ≡ 0 → k ≡ true
-    go true fault q = refl
-    go false fault q = absurd (omega arith)
 
 pub accepted-known : (t : List ℕ) (v x y : ℕ) → checked t v ≡ Accepted x y
     → (i : ℕ) → known (nodeIn (nodesOf t) i .kind) ≡ true
@@ -29,5 +23,5 @@ accepted-known t v x y e i = go (decLt i (nodeCount t))
     kind-of q = ap (λ (n : Node). known (n .kind)) q
 
     go : Dec (i < nodeCount t) → known (nodeIn (nodesOf t) i .kind) ≡ true
-    go (yes h) = kind-of (nodeIn-nodesOf t i h) ∙ known-right v i (nodeAt t i) (accepts t v x y e .records i h)
+    go (yes h) = kind-of (nodeIn-nodesOf t i h) ∙ keeps-of-no-fault v i (nodeAt t i) (accepts t v x y e .records i h) .kind
     go (no h) = kind-of (List·getD-eq-default (nodesOf t) (nodeIn [] i) (omega (arith, length-nodesOf t)))

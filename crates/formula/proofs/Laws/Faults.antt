@@ -10,6 +10,7 @@ use lib.Dec.{eqb}
 use lib.ListN.{length}
 use borrow.Author.Tests.{eqb-true, eq-eqb, ne-eqb, lt-ltb, le-ltb}
 use Rattle.answer.specs.declared.Answer.the-variants.{Accepted, Record}
+use Rattle.laws.proofs.Choices.{both}
 use Rattle.laws.proofs.First.{first-before, first-fails}
 use Rattle.formula.specs.Tables.{mostOptions, nodeAt, nodeCount, known, useOfA, useOfB, fieldRight, faultOf}
 use Rattle.formula.specs.Tables.{unusedNotZero, childNotBelow, symbolOutside, faultNumber, fieldFault, firstFault}
@@ -51,6 +52,18 @@ no-fault v i n =
     go true s u true true = refl
     go true s u true false = second-some u
     go true s u false b = first-some s (cond b 0 (faultNumber u))
+
+-- what a record without a fault keeps
+pub record Keeps (v i : ℕ) (n : Node) : Type 0 where
+  pub kind : known (n .kind) ≡ true
+  pub a : fieldRight v i (useOfA (n .kind)) (n .a) ≡ true
+  pub b : fieldRight v i (useOfB (n .kind)) (n .b) ≡ true
+
+pub keeps-of-no-fault : (v i : ℕ) (n : Node) → faultOf v i n ≡ 0 → Keeps v i n
+keeps-of-no-fault v i n e =
+    let all = both (known (n .kind)) _ (sym (no-fault v i n) ∙ eq-eqb (faultOf v i n) 0 e) in
+    let fields = both (fieldRight v i (useOfA (n .kind)) (n .a)) (fieldRight v i (useOfB (n .kind)) (n .b)) (all .1) in
+    record { kind = all .0; a = fields .0; b = fields .1 }
 
 -- a field of node i that holds u is wrong
 pub data WrongField (v i : ℕ) (n : Node) (u : Use) : Type 0 where

@@ -7,17 +7,17 @@ use Prim.Native.Nat.{ℕ, _+_, _*_, _<_, _≤_, _/_, _%_}
 use native.Mathlib.Omega.{arith}
 use lib.Dec.{eqb, leb, ltb}
 use lib.ListN.{length, List·getD-eq-default}
-use borrow.Author.Tests.{eqb-true, eqb-false, eq-eqb, ltb-true, ltb-false, leb-true, not-false}
+use borrow.Author.Tests.{eqb-true, eqb-false, ltb-true, ltb-false, leb-true, not-false}
 use Rattle.answer.specs.declared.Answer.the-variants.{Accepted, TableLength, Options, Record}
-use Rattle.laws.proofs.Choices.{both, neither}
+use Rattle.laws.proofs.Choices.{neither}
 use Rattle.laws.proofs.First.{first-before, first-fails}
 use Rattle.answer.specs.Answers.{refuses}
 use Rattle.answer.proofs.Laws.Order.{passes}
-use Rattle.formula.specs.Tables.{nodeBytes, mostNodes, mostOptions, nodeAt, nodeCount, nodesOf, nodeIn, known, useOfA, useOfB}
+use Rattle.formula.specs.Tables.{nodeBytes, mostNodes, mostOptions, nodeAt, nodeCount, nodesOf, nodeIn, useOfA, useOfB}
 use Rattle.formula.specs.Tables.{fieldRight, faultOf}
 use Rattle.formula.specs.Inner.Right.{FieldBelow, Below, WellFormed, RightLength}
 use Rattle.formula.specs.Checks.{lengthWrong, recordRight, firstWrong, checked}
-use Rattle.formula.proofs.Laws.Faults.{no-fault}
+use Rattle.formula.proofs.Laws.Faults.{keeps-of-no-fault}
 use Rattle.formula.proofs.Laws.Tables.{length-nodesOf, nodeIn-nodesOf}
 use Rattle.formula.specs.declared.node.Kind.{Kind}
 use Rattle.formula.specs.declared.node.Kind.the-variants.{Symbol}
@@ -75,13 +75,6 @@ right-length n e =
 pub length-right : (t : List ℕ) (v : ℕ) → refuses (checked t v) ≡ false → RightLength (length t)
 length-right t v e = right-length (length t) (passed t v e .lengths)
 
--- what a right record says
-right-record : (v i : ℕ) (n : Node) → faultOf v i n ≡ 0 → (fieldRight v i (useOfA (n .kind)) (n .a) ≡ true)
-    × (fieldRight v i (useOfB (n .kind)) (n .b) ≡ true)
-right-record v i n e =
-    let kept = sym (no-fault v i n) ∙ eq-eqb (faultOf v i n) 0 e in
-    both (fieldRight v i (useOfA (n .kind)) (n .a)) (fieldRight v i (useOfB (n .kind)) (n .b)) (both (known (n .kind)) _ kept .1)
-
 field-below : (v i : ℕ) (u : Use) (x : ℕ) → fieldRight v i u x ≡ true → FieldBelow i u x
 field-below v i held.Unused x e = tt
 field-below v i held.Child x e = ltb-true x i e
@@ -113,9 +106,9 @@ accepted-well-formed t v x y e = record {
 
     at : (i : ℕ) (b : Bool) → ltb i (nodeCount t) ≡ b → Below i (nodeIn (nodesOf t) i)
     at i true p =
-        let r = right-record v i (nodeIn (nodesOf t) i) (right i (ltb-true i (nodeCount t) p)) in (
-          field-below v i (useOfA (nodeIn (nodesOf t) i .kind)) (nodeIn (nodesOf t) i .a) (r .0),
-          field-below v i (useOfB (nodeIn (nodesOf t) i .kind)) (nodeIn (nodesOf t) i .b) (r .1),
+        let r = keeps-of-no-fault v i (nodeIn (nodesOf t) i) (right i (ltb-true i (nodeCount t) p)) in (
+          field-below v i (useOfA (nodeIn (nodesOf t) i .kind)) (nodeIn (nodesOf t) i .a) (r .a),
+          field-below v i (useOfB (nodeIn (nodesOf t) i .kind)) (nodeIn (nodesOf t) i .b) (r .b),
         )
     at i false p =
         subst⁻¹ (Below i) (past (nodesOf t) i (omega (arith, length-nodesOf t, ltb-false i (nodeCount t) p))) (tt, tt)
@@ -123,9 +116,9 @@ accepted-well-formed t v x y e = record {
     symbol : (i : ℕ) → nodeIn (nodesOf t) i .kind ≡ Symbol → (b : Bool) → ltb i (nodeCount t) ≡ b
         → (0 < nodeIn (nodesOf t) i .a) × (nodeIn (nodesOf t) i .a ≤ v)
     symbol i q true p =
-        let r = right-record v i (nodeIn (nodesOf t) i) (right i (ltb-true i (nodeCount t) p)) in
+        let r = keeps-of-no-fault v i (nodeIn (nodesOf t) i) (right i (ltb-true i (nodeCount t) p)) in
         symbol-right v i (nodeIn (nodesOf t) i .a)
-        (subst (λ (k : Kind). fieldRight v i (useOfA k) (nodeIn (nodesOf t) i .a) ≡ true) q (r .0))
+        (subst (λ (k : Kind). fieldRight v i (useOfA k) (nodeIn (nodesOf t) i .a) ≡ true) q (r .a))
     symbol i q false p =
         let f = ap (λ (n : Node). n .kind) (past (nodesOf t) i (omega (arith, length-nodesOf t, ltb-false i (nodeCount t) p))) in
         let z : _≡_ {A = ℕ} 0 1 = cc in
