@@ -84,9 +84,9 @@
  * The version of this header, and of the library that is installed with it. CHANGELOG.md says what may change in which
  * version.
  */
-#define SIMBOLUFA_VERSION "1.1.0"
+#define SIMBOLUFA_VERSION "1.2.0"
 #define SIMBOLUFA_VERSION_MAJOR 1
-#define SIMBOLUFA_VERSION_MINOR 1
+#define SIMBOLUFA_VERSION_MINOR 2
 #define SIMBOLUFA_VERSION_PATCH 0
 
 #ifdef __cplusplus
@@ -95,18 +95,25 @@ extern "C" {
 
 /*
  * What a call returns. The checks go in this order, as far as a call has them:
- * 11, 1, 2, 3, 4, 5, 6, 8, 9, 7. The place is 0 unless it is given here. A place over 4,294,967,295
- * shows as that number.
+ * 11, 1, 2, the records, 4, 5, 6, 8, 9, 7. The place is 0 unless it is given here. A place over
+ * 4,294,967,295 shows as that number.
+ *
+ * A wrong record is refused by 3, 12, 13 or 14, which are looked at in this order. The lowest node whose
+ * record is wrong decides, whatever its fault is, and it is the place.
+ *
+ * simbolufa_sentence, below, says each of them in words.
  */
 enum simbolufa_number {
     /* Nothing is wrong. */
     SIMBOLUFA_ACCEPTED = 0,
     /* The table is empty, is not a multiple of 5 bytes, or is over 5,120 bytes. */
     SIMBOLUFA_REFUSED_TABLE_LENGTH = 1,
-    /* V is over 32,000. Or, looked at after refusal 3, what is taken is below V or over 32,000. */
+    /* V is over 32,000. Or, looked at after the records, what is taken is below V or over 32,000. */
     SIMBOLUFA_REFUSED_OPTIONS = 2,
-    /* A node's record breaks the rules of the node table. Place: the lowest such node. */
-    SIMBOLUFA_REFUSED_RECORD = 3,
+    /* A node's kind is none of 0 to 7. Place: the node. */
+    SIMBOLUFA_REFUSED_KIND = 3,
+    /* The former name of 3, from when every wrong record was refused by it. */
+    SIMBOLUFA_REFUSED_RECORD = SIMBOLUFA_REFUSED_KIND,
     /*
      * The set's length is not the node count. Place: the node count.
      * Or a byte of the set is not 0 or 1, or is 1 on a node that may not be renamed. Place: the lowest
@@ -136,7 +143,13 @@ enum simbolufa_number {
      */
     SIMBOLUFA_REFUSED_NODE_FILE = 10,
     /* The answer part is not 16 bytes. Nothing is written. */
-    SIMBOLUFA_REFUSED_ANSWER_LENGTH = 11
+    SIMBOLUFA_REFUSED_ANSWER_LENGTH = 11,
+    /* A node's kind does not use one of the two fields, and that field is not 0. Place: the node. */
+    SIMBOLUFA_REFUSED_UNUSED_FIELD = 12,
+    /* A node's child is not below it: the child's number is the node's or a higher one. Place: the node. */
+    SIMBOLUFA_REFUSED_CHILD = 13,
+    /* A node's symbol is 0 or over V. Place: the node. */
+    SIMBOLUFA_REFUSED_SYMBOL = 14
 };
 
 /* The length of the answer part. */
@@ -145,8 +158,8 @@ enum { SIMBOLUFA_ANSWER_LENGTH = 16 };
 /*
  * Checks a node table. `options` is V.
  *
- * Returns 0 where every node keeps to the rules, else 1, 2, 3 or 11. Both values of the answer part
- * are 0.
+ * Returns 0 where every node keeps to the rules, else 1, 2, 3, 12, 13, 14 or 11. Both values of the
+ * answer part are 0.
  */
 uint32_t simbolufa_check(const uint8_t *table, size_t table_len, uint32_t options, uint8_t *answer,
                          size_t answer_len);
@@ -154,9 +167,9 @@ uint32_t simbolufa_check(const uint8_t *table, size_t table_len, uint32_t option
 /*
  * Measures a conversion under a set. `options` is V, and `set` has one byte a node.
  *
- * Returns 0, 1, 2, 3, 4 or 11. The values of the answer part are the clause total and the literal
- * total, each at its ceiling. A conversion of c clauses and l literals takes 4 * (c + l) bytes. It is
- * refused where c shows as 65,535 or l shows as 1,000,000.
+ * Returns 0, 1, 2, 3, 12, 13, 14, 4 or 11. The values of the answer part are the clause total and the
+ * literal total, each at its ceiling. A conversion of c clauses and l literals takes 4 * (c + l) bytes. It
+ * is refused where c shows as 65,535 or l shows as 1,000,000.
  */
 uint32_t simbolufa_measure(const uint8_t *table, size_t table_len, uint32_t options, const uint8_t *set,
                            size_t set_len, uint8_t *answer, size_t answer_len);
@@ -169,8 +182,8 @@ uint32_t simbolufa_measure(const uint8_t *table, size_t table_len, uint32_t opti
  * total, at its ceiling, becomes lower. A larger allowance renames at least the same nodes, and its
  * clause total is not higher.
  *
- * Returns 0, 1, 2, 3, 4 or 11. On 0 every byte of `set` is written. The values of the answer part are
- * the number of renamed nodes and the clause total. A total of 65,535 is not refused here.
+ * Returns 0, 1, 2, 3, 12, 13, 14, 4 or 11. On 0 every byte of `set` is written. The values of the answer
+ * part are the number of renamed nodes and the clause total. A total of 65,535 is not refused here.
  */
 uint32_t simbolufa_choose(const uint8_t *table, size_t table_len, uint32_t options, uint32_t allowance,
                           uint8_t *set, size_t set_len, uint8_t *answer, size_t answer_len);
@@ -182,9 +195,9 @@ uint32_t simbolufa_choose(const uint8_t *table, size_t table_len, uint32_t optio
  * of values that satisfy the clauses satisfy the formula. A row that satisfies the formula satisfies
  * the clauses with each helper at its node's truth. Nothing is simplified.
  *
- * Returns 0, 1, 2, 3, 4, 5, 6, 7 or 11. On 0 the clause bytes are the first bytes of `out`, and the
- * bytes after them are not changed. The values of the answer part are the variables (V and the number
- * of helpers) and the clauses. simbolufa_measure tells how many bytes are needed.
+ * Returns 0, 1, 2, 3, 12, 13, 14, 4, 5, 6, 7 or 11. On 0 the clause bytes are the first bytes of `out`,
+ * and the bytes after them are not changed. The values of the answer part are the variables (V and the
+ * number of helpers) and the clauses. simbolufa_measure tells how many bytes are needed.
  */
 uint32_t simbolufa_convert(const uint8_t *table, size_t table_len, uint32_t options, const uint8_t *set,
                            size_t set_len, uint8_t *out, size_t out_len, uint8_t *answer,
@@ -225,6 +238,62 @@ uint32_t simbolufa_write_dimacs(const uint8_t *clauses, size_t clauses_len, uint
  */
 uint32_t simbolufa_read_dimacs(const uint8_t *text, size_t text_len, uint8_t *clauses, size_t clauses_len,
                                uint8_t *answer, size_t answer_len);
+
+/* Whether a number is the refusal of a record: 3, 12, 13 or 14. Then the place is a node. */
+static inline int simbolufa_is_record_refusal(uint32_t number)
+{
+    switch (number) {
+    case SIMBOLUFA_REFUSED_KIND:
+    case SIMBOLUFA_REFUSED_UNUSED_FIELD:
+    case SIMBOLUFA_REFUSED_CHILD:
+    case SIMBOLUFA_REFUSED_SYMBOL:
+        return 1;
+    default:
+        return 0;
+    }
+}
+
+/*
+ * What a number says, in words. They begin with a small letter and end with no full stop, so that they can
+ * stand behind a place. simbolufa_node_file.h has more words for node files.
+ */
+static inline const char *simbolufa_sentence(uint32_t number)
+{
+    switch (number) {
+    case SIMBOLUFA_ACCEPTED:
+        return "nothing is wrong";
+    case SIMBOLUFA_REFUSED_TABLE_LENGTH:
+        return "the table is empty, is not a multiple of 5 bytes, or is over 5,120 bytes";
+    case SIMBOLUFA_REFUSED_OPTIONS:
+        return "the option count is over 32,000, or what is taken is below it or over 32,000";
+    case SIMBOLUFA_REFUSED_KIND:
+        return "the kind is none of 0 to 7";
+    case SIMBOLUFA_REFUSED_UNUSED_FIELD:
+        return "a field that the kind does not use is not 0";
+    case SIMBOLUFA_REFUSED_CHILD:
+        return "a child is not below its node";
+    case SIMBOLUFA_REFUSED_SYMBOL:
+        return "a symbol is not one of 1 to V, the option count";
+    case SIMBOLUFA_REFUSED_SET:
+        return "the set has not one byte for each node, or has a byte that is not 0 or 1, or a 1 on a node that may not be renamed";
+    case SIMBOLUFA_REFUSED_CLAUSES:
+        return "there are 65,535 clauses or more";
+    case SIMBOLUFA_REFUSED_LITERALS:
+        return "there are 1,000,000 literals or more";
+    case SIMBOLUFA_REFUSED_ROOM:
+        return "the output needs more bytes than the buffer has";
+    case SIMBOLUFA_REFUSED_TEXT:
+        return "the DIMACS text is not accepted";
+    case SIMBOLUFA_REFUSED_CLAUSE_BYTES:
+        return "the clause bytes break a rule of clause bytes, or the variables are over 40,000";
+    case SIMBOLUFA_REFUSED_NODE_FILE:
+        return "a line of the node file is wrong or missing, or the file is over 65,536 bytes";
+    case SIMBOLUFA_REFUSED_ANSWER_LENGTH:
+        return "the answer part is not 16 bytes";
+    default:
+        return "there is no such number";
+    }
+}
 
 /* The four numbers of an answer part. */
 struct simbolufa_answer {

@@ -157,6 +157,10 @@ constexpr std::uint32_t most_variables = 40000;
 struct [[nodiscard]] answer : simbolufa_answer {
     [[nodiscard]] constexpr bool accepted() const noexcept { return number == SIMBOLUFA_ACCEPTED; }
     constexpr explicit operator bool() const noexcept { return accepted(); }
+    /* Whether a record is refused, by 3, 12, 13 or 14. Then the place is its node. */
+    [[nodiscard]] bool is_record() const noexcept { return simbolufa_is_record_refusal(number) != 0; }
+    /* What the number says, in words, such as `a child is not below its node`. */
+    [[nodiscard]] const char *sentence() const noexcept { return simbolufa_sentence(number); }
 };
 
 namespace detail {
@@ -258,7 +262,7 @@ private:
 /*
  * Tells how many bytes convert and convert_after need for a table, options and a set.
  *
- * Where convert would refuse whatever the room is, the answer is that refusal, 1 to 6, with its place,
+ * Where convert would refuse whatever the room is, the answer is that refusal, any but 7, with its place,
  * and `needed` is 0. Else the values are those of measure, and `needed` bytes are exactly enough.
  */
 inline answer needed_bytes(bytes table, std::uint32_t options, bytes set, std::size_t &needed) noexcept
