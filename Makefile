@@ -14,11 +14,13 @@ object := target/obj/simbolufa.o
 out := target/package
 library := $(out)/libsimbolufa.a
 command := $(out)/simbolufa
-headers := include/simbolufa.h include/simbolufa.hpp
+headers := include/simbolufa.h include/simbolufa.hpp include/simbolufa_node_file.h
+pages := LICENSE docs/NODEFILE.md
 package := lib/cmake/Simbolufa
 # What install puts there, below PREFIX.
 installed := bin/simbolufa bin/nightly $(headers) lib/libsimbolufa.a lib/pkgconfig/simbolufa.pc \
-    $(package)/SimbolufaConfig.cmake $(package)/SimbolufaConfigVersion.cmake share/doc/simbolufa/LICENSE
+    $(package)/SimbolufaConfig.cmake $(package)/SimbolufaConfigVersion.cmake \
+    $(addprefix share/doc/simbolufa/,$(notdir $(pages)))
 # Folders too: a file that is taken away changes its folder.
 crates := crates.txt $(shell find crates)
 # Recipes have these from the environment: a path may have a space, or what make or the shell would read.
@@ -57,7 +59,7 @@ else
 endif
 
 # The command is the proved program, compiled for this machine, between the command's own main, read and write.
-$(command): $(object) command/command.c include/simbolufa.h tools/native-object
+$(command): $(object) command/command.c command/words.h $(headers) tools/native-object
 	mkdir -p $(out)
 	tools/native-object simbolufa $(out)/program.o
 	$(CC) -std=c99 -Wall -Wextra -pedantic $(CPPFLAGS) $(CFLAGS) -Iinclude $(LDFLAGS) -o $@ command/command.c $(out)/program.o \
@@ -78,7 +80,7 @@ install: prefix $(library) $(command)
 	$(INSTALL) -m 644 $(library) "$$root/lib"
 	$(INSTALL) -m 644 $(out)/simbolufa.pc "$$root/lib/pkgconfig"
 	$(INSTALL) -m 644 cmake/SimbolufaConfig.cmake $(out)/SimbolufaConfigVersion.cmake "$$root/$(package)"
-	$(INSTALL) -m 644 LICENSE "$$root/share/doc/simbolufa"
+	$(INSTALL) -m 644 $(pages) "$$root/share/doc/simbolufa"
 	@if $(has_cadical); then \
 	    $(MAKE) nightly && $(INSTALL) target/nightly/nightly "$$root/bin"; \
 	else \

@@ -1,21 +1,24 @@
 /*
  * The installed command: what stands round the proved program. It opens the file, says what went wrong, and tells the exit
- * status. What is printed is the program's.
+ * status. What is printed on standard output is the program's.
  *
  * The program is linked with --wrap for main, read and write: its main is __real_main here, and its reads and writes come
- * through __wrap_read and __wrap_write. So a read or a write that fails is known, and a refusal is seen.
+ * through __wrap_read and __wrap_write. So a read or a write that fails is known, a refusal is seen, and the node file is
+ * there to be looked at again.
  */
 #define _POSIX_C_SOURCE 200809L
 
 #include <errno.h>
 #include <fcntl.h>
+#include <signal.h>
 #include <stdarg.h>
 #include <stdio.h>
+#include <stdlib.h>
 #include <string.h>
 #include <sys/stat.h>
 #include <unistd.h>
 
-#include "simbolufa.h"
+#include "words.h"
 
 enum { CONVERTED = 0, REFUSED = 1, NOTHING_CONVERTED = 2 };
 
@@ -26,23 +29,20 @@ int __wrap_main(int count, char **words);
 ssize_t __wrap_read(int descriptor, void *to, size_t length);
 ssize_t __wrap_write(int descriptor, const void *from, size_t length);
 
-static const char usage[] =
-    "usage: simbolufa [FILE]\n"
-    "\n"
-    "Reads a node file, FILE or standard input, and prints its clauses as DIMACS text. Where the node file is refused it prints\n"
-    "one line: refused, the number and the place, parted by tabs. --version prints the version.\n"
-    "\n"
-    "Exit status: 0 where clauses were printed, 1 where the node file was refused, 2 where nothing was converted: bad usage, a\n"
-    "file that cannot be read, or output that was not written.\n";
-
 /* The number of a read or a write that failed, or 0. */
 static int read_error = 0;
 static int write_error = 0;
 
+/* The node file, as it was read. */
+static uint8_t text[65537];
+static size_t text_length = 0;
+
+/* How a refusal begins. */
 static const char refused[] = "refused\t";
-/* How many bytes were printed that begin as a refusal does. One that does not ends the count. */
-static size_t alike = 0;
-static int has_differed = 0;
+
+/* What was printed first. A refusal is shorter, and a zero stands behind it. */
+static char printed[64];
+static size_t printed_length = 0;
 
 static int stop(const char *form, ...)
 {
@@ -55,15 +55,13 @@ static int stop(const char *form, ...)
     return NOTHING_CONVERTED;
 }
 
-static void look_at(const char *printed, size_t length)
+/* Puts bytes behind those that are kept, as far as there is room. Gives how many are kept then. */
+static size_t keep(void *room, size_t size, size_t kept, const void *bytes, size_t length)
 {
-    size_t at;
-    for (at = 0; at < length && !has_differed && alike < sizeof refused - 1; at++) {
-        if (printed[at] == refused[alike])
-            alike++;
-        else
-            has_differed = 1;
-    }
+    if (length > size - kept)
+        length = size - kept;
+    memcpy((char *)room + kept, bytes, length);
+    return kept + length;
 }
 
 ssize_t __wrap_read(int descriptor, void *to, size_t length)
@@ -74,6 +72,8 @@ ssize_t __wrap_read(int descriptor, void *to, size_t length)
     while (count < 0 && errno == EINTR);
     if (count < 0)
         read_error = errno;
+    else
+        text_length = keep(text, sizeof text, text_length, to, (size_t)count);
     return count;
 }
 
@@ -89,15 +89,22 @@ ssize_t __wrap_write(int descriptor, const void *from, size_t length)
     if (count < 0)
         write_error = errno;
     else
-        look_at(from, (size_t)count);
+        printed_length = keep(printed, sizeof printed - 1, printed_length, from, (size_t)count);
     return count;
 }
 
-static int print(const char *text)
+/* Ends what was printed by the command itself. */
+static int end_print(void)
 {
-    if (fputs(text, stdout) < 0 || fflush(stdout) != 0)
+    if (ferror(stdout) || fflush(stdout) != 0)
         return stop("standard output was not written: %s", strerror(errno));
     return 0;
+}
+
+static int bad_usage(void)
+{
+    print_usage(stderr);
+    return NOTHING_CONVERTED;
 }
 
 /* Makes a file the standard input. Gives whether that was done. */
@@ -123,6 +130,20 @@ static int take_file(const char *path)
     return 1;
 }
 
+/* Says in words what was refused. Whether anybody reads it plays no part. */
+static void explain(const char *path)
+{
+    struct node_file file;
+    char *behind = NULL;
+    const unsigned long number = strtoul(printed + sizeof refused - 1, &behind, 10);
+    const unsigned long place = strtoul(behind, NULL, 10);
+    file.name = path;
+    file.text = text;
+    file.length = text_length;
+    signal(SIGPIPE, SIG_IGN);
+    print_refusal(stderr, file, (uint32_t)number, (uint32_t)place);
+}
+
 static int convert(const char *path)
 {
     /* A closed standard input is an empty one, as for ./simbolufa. */
@@ -135,22 +156,30 @@ static int convert(const char *path)
         return stop("%s cannot be read: %s", path != NULL ? path : "standard input", strerror(read_error));
     if (write_error != 0)
         return stop("standard output was not written: %s", strerror(write_error));
-    return alike == sizeof refused - 1 ? REFUSED : CONVERTED;
+    if (strncmp(printed, refused, sizeof refused - 1) != 0)
+        return CONVERTED;
+    explain(path);
+    return REFUSED;
 }
 
 int __wrap_main(int count, char **words)
 {
+    static char line[BUFSIZ];
     const char *word = count > 1 ? words[1] : NULL;
-    if (count > 2) {
-        fputs(usage, stderr);
-        return NOTHING_CONVERTED;
-    }
+    /* A line is written at once, also where several commands write to one file. */
+    setvbuf(stderr, line, _IOLBF, sizeof line);
+    if (count > 2)
+        return bad_usage();
     if (word == NULL || word[0] != '-')
         return convert(word);
-    if (strcmp(word, "-h") == 0 || strcmp(word, "--help") == 0)
-        return print(usage);
-    if (strcmp(word, "--version") == 0)
-        return print("simbolufa " SIMBOLUFA_VERSION "\n");
-    fputs(usage, stderr);
-    return NOTHING_CONVERTED;
+    if (strcmp(word, "-h") == 0 || strcmp(word, "--help") == 0) {
+        print_usage(stdout);
+        print_numbers(stdout);
+        return end_print();
+    }
+    if (strcmp(word, "--version") == 0) {
+        puts("simbolufa " SIMBOLUFA_VERSION);
+        return end_print();
+    }
+    return bad_usage();
 }
