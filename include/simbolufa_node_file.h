@@ -72,11 +72,20 @@ static inline int simbolufa_has_order_mark(const uint8_t *text, size_t length)
     return length >= 2 && ((text[0] == 0xFF && text[1] == 0xFE) || (text[0] == 0xFE && text[1] == 0xFF));
 }
 
-/* The part without the spaces and tabs at its beginning. */
-static inline struct simbolufa_text_part simbolufa_without_blanks(struct simbolufa_text_part part)
+static inline int simbolufa_is_letter(uint8_t byte)
 {
-    while (part.at < part.end && (part.text[part.at] == ' ' || part.text[part.at] == '\t'))
+    return (byte >= 'a' && byte <= 'z') || (byte >= 'A' && byte <= 'Z');
+}
+
+/* The letters that a part begins with, behind spaces and tabs. */
+static inline struct simbolufa_text_part simbolufa_first_word(struct simbolufa_text_part part)
+{
+    const size_t end = part.end;
+    while (part.at < end && (part.text[part.at] == ' ' || part.text[part.at] == '\t'))
         part.at++;
+    part.end = part.at;
+    while (part.end < end && simbolufa_is_letter(part.text[part.end]))
+        part.end++;
     return part;
 }
 
@@ -169,15 +178,17 @@ static inline const char *simbolufa_fields_fault(struct simbolufa_text_part part
             return "a field is empty: there are two tabs in a row, or a tab at an end of the line";
     }
     if (count != wanted && line == 1)
-        return "line 1 has two fields, the word options and the option count, with one tab between";
+        return "line 1 needs two fields: the word options and the option count, with one tab between";
     if (count != wanted)
-        return "a node line has four fields, the node's number, its kind, a and b, with one tab between two";
+        return "a node line needs four fields: the node's number, its kind, a and b, with one tab between two";
     for (at = part.at, count = 0; at <= part.end; at = field.end + 1, count++) {
         const char *fault = "";
         field.at = at;
         field.end = part.end;
         field.end = simbolufa_find(field, '\t');
-        if (line != 1 || count != 0)
+        if (line == 1 && count == 0)
+            fault = simbolufa_is_word(field, "options", 0) ? "" : "the first field of line 1 is not the word options";
+        else
             fault = simbolufa_number_fault(field, line != 1 && count == 1 ? 255 : 65535);
         if (*fault != '\0')
             return fault;
@@ -190,11 +201,7 @@ static inline const char *simbolufa_fields_fault(struct simbolufa_text_part part
 /* What is wrong with a line that is there: empty words where nothing is. */
 static inline const char *simbolufa_line_fault(struct simbolufa_text_part part, uint32_t line, int has_newline)
 {
-    struct simbolufa_text_part word = simbolufa_without_blanks(part);
-    struct simbolufa_text_part behind = word;
-    while (behind.at < behind.end && behind.text[behind.at] != ' ' && behind.text[behind.at] != '\t')
-        behind.at++;
-    word.end = behind.at;
+    const struct simbolufa_text_part word = simbolufa_first_word(part);
     if (part.at == part.end)
         return "the line is empty";
     if (simbolufa_has_comment(part))
@@ -209,7 +216,7 @@ static inline const char *simbolufa_line_fault(struct simbolufa_text_part part, 
         return "the last line has no newline at its end";
     if (line == 1 && !simbolufa_is_word(word, "options", 0))
         return simbolufa_is_word(word, "options", 1) ? "the word options is not in small letters"
-                                                     : "line 1 does not begin with the word options";
+                                                     : "the first field of line 1 is not the word options";
     if (line != 1 && simbolufa_is_word(word, "options", 0))
         return "a line with the word options stands behind line 1, and a node file is one guard";
     if (simbolufa_has(part, ' '))
