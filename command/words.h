@@ -51,13 +51,15 @@ static inline int print_numbers(FILE *to)
                  to);
 }
 
-/* Prints a file's name. Control characters are shown as \xHH, so that the name stays in its line. */
+/* Prints a file's name. Control characters are shown as \xHH, so that the name stays in its line, and a backslash twice. */
 static inline void print_name(FILE *to, const char *name)
 {
     for (; *name != '\0'; name++) {
         const unsigned char byte = (unsigned char)*name;
         if (byte < 0x20 || byte == 0x7f)
-            fprintf(to, "\\x%02X", (unsigned)byte);
+            fprintf(to, "\\x%02x", (unsigned)byte);
+        else if (byte == '\\')
+            fputs("\\\\", to);
         else
             fputc(byte, to);
     }

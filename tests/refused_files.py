@@ -113,12 +113,29 @@ def line_of(number, place):
     return {10: place, 2: 1, 1: 2}.get(number, 0)
 
 
+def shown(name):
+    """A file's name, as it is shown."""
+    name = name.replace("\\", "\\\\")
+    return re.sub(r"[\x00-\x1f\x7f]", lambda found: f"\\x{ord(found[0]):02x}", name)
+
+
 def said(name, number, place, words):
     """What stands on standard error."""
     line = line_of(number, place)
     where = f", line {line}" if line else ""
     node = f" at node {place}" if number in (3, 12, 13, 14) else ""
     return f"simbolufa: {name}{where}: refused by {number}{node}: {words}\n".encode()
+
+
+def fits(text, name, status, printed, told):
+    """Whether exit status and both outputs fit together: a refusal has its line on standard error, whose words are true."""
+    found = re.fullmatch(rb"refused\t(\d+)\t(\d+)\n", printed)
+    if not found:
+        return (status, told) == (0, b"")
+    number, place = int(found[1]), int(found[2])
+    before = said(name, number, place, "")[:-1]
+    words = told[len(before) : -1].decode()
+    return (status, told) == (1, said(name, number, place, words)) and is_true(text, number, place, words)
 
 
 SYMBOL = b"0\t2\t1\t0\n"

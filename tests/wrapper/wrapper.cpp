@@ -3,6 +3,7 @@
 #include <simbolufa.hpp>
 // Twice, because a host's headers may each include it.
 #include <simbolufa.hpp>
+#include <simbolufa_node_file.h>
 
 #include <algorithm>
 #include <array>
@@ -74,6 +75,7 @@ static_assert(noexcept(simbolufa::text_bytes({}, 0)) && noexcept(simbolufa::conv
 static_assert(noexcept(simbolufa::together(0).convert({}, {}, {})) && simbolufa::together(7).variables() == 7);
 static_assert(!std::is_convertible_v<uint32_t, simbolufa::together>);
 static_assert(std::is_trivially_copyable_v<simbolufa::answer>);
+static_assert(noexcept(simbolufa::answer{}.sentence()) && noexcept(simbolufa::answer{}.is_record()));
 // An answer is asked, and is no number.
 static_assert(std::is_constructible_v<bool, simbolufa::answer> && !std::is_convertible_v<simbolufa::answer, bool>);
 static_assert(std::string_view(simbolufa::version()) == SIMBOLUFA_VERSION);
@@ -164,7 +166,7 @@ void check_calls()
     expect("check of a pointer and a length", is(simbolufa::check({table, 15}, 2), 0, 0, 0, 0));
     expect("check of no table", is(simbolufa::check({}, 2), 1, 0, 0, 0));
     expect("check of too many options", is(simbolufa::check(table, 32001), 2, 0, 0, 0));
-    expect("check of a wrong record", is(simbolufa::check(table, 1), 3, 1, 0, 0));
+    expect("check of a wrong symbol", is(simbolufa::check(table, 1), 14, 1, 0, 0));
     expect("measure", is(simbolufa::measure(table, 2, none), 0, 0, 8, 32));
     expect("measure under a set", is(simbolufa::measure(table, 2, renamed), 0, 0, 6, 16));
     expect("measure without a set", is(simbolufa::measure(table, 2, {}), 4, 4, 0, 0));
@@ -174,6 +176,42 @@ void check_calls()
     Bytes longer(5, 9);
     expect("choose into another length", is(simbolufa::choose(table, 2, 1024, longer), 4, 4, 0, 0));
     expect("a refusal leaves the set", longer == Bytes(5, 9));
+}
+
+// What each number says, and which of them are about a record. The words are those of simbolufa.h.
+void check_sentences()
+{
+    const std::array<std::string_view, 16> sentences = {
+        "nothing is wrong",
+        "the table is empty, is not a multiple of 5 bytes, or is over 5,120 bytes",
+        "the option count is over 32,000, or what is taken is below it or over 32,000",
+        "the kind is none of 0 to 7",
+        "the set has not one byte for each node, or has a byte that is not 0 or 1, or a 1 on a node that may not be renamed",
+        "there are 65,535 clauses or more",
+        "there are 1,000,000 literals or more",
+        "the output needs more bytes than the buffer has",
+        "the DIMACS text is not accepted",
+        "the clause bytes break a rule of clause bytes, or the variables are over 40,000",
+        "a line of the node file is wrong or missing, or the file is over 65,536 bytes",
+        "the answer part is not 16 bytes",
+        "a field that the kind does not use is not 0",
+        "a child is not below its node",
+        "a symbol is not one of 1 to V, the option count",
+        "there is no such number",
+    };
+    for (uint32_t number = 0; number < sentences.size(); number++) {
+        const simbolufa::answer told{simbolufa_answer{number, 0, 0, 0}};
+        expect("a sentence", sentences[number] == told.sentence() && sentences[number] == simbolufa_sentence(number));
+        const bool is_record = number == 3 || (number >= 12 && number <= 14);
+        expect("a record", told.is_record() == is_record && simbolufa_is_record_refusal(number) == int{is_record});
+        expect("a line", simbolufa_line_of(number, 7) == (is_record ? 9 : number == 10 ? 7 : number == 2 ? 1 : number == 1 ? 2 : 0));
+    }
+    expect("another number", simbolufa::answer{simbolufa_answer{UINT32_MAX, 0, 0, 0}}.sentence() == sentences[15]);
+    const uint8_t capital[] = {'O', 'p', 't', 'i', 'o', 'n', 's', '\t', '2', '\n'};
+    const std::string_view small = "the word options is not in small letters";
+    expect("a node file", small == simbolufa_node_file_sentence(capital, sizeof capital, 10, 1));
+    expect("no node file", std::string_view("the file is empty") == simbolufa_node_file_sentence(nullptr, 0, 10, 1));
+    expect("a former name", SIMBOLUFA_REFUSED_RECORD == SIMBOLUFA_REFUSED_KIND);
 }
 
 void check_sizes()
@@ -194,7 +232,10 @@ void check_sizes()
     expect("too many clauses", is_refused(many_clauses(true), 1, Bytes(31), 5, 0));
     expect("no table", is_refused({}, 1, {}, 1, 0));
     expect("too many options", is_refused(doubled_literals(1), 32001, Bytes(2), 2, 0));
-    expect("a wrong record", is_refused(doubled_literals(1), 0, Bytes(2), 3, 0));
+    expect("a wrong kind", is_refused({8, 0, 0, 0, 0}, 0, Bytes(1), 3, 0));
+    expect("an unused field", is_refused({1, 0, 0, 1, 0}, 0, Bytes(1), 12, 0));
+    expect("a wrong child", is_refused({3, 0, 0, 0, 0}, 0, Bytes(1), 13, 0));
+    expect("a wrong symbol", is_refused(doubled_literals(1), 0, Bytes(2), 14, 0));
     expect("a wrong set", is_refused(doubled_literals(1), 1, Bytes{0, 1}, 4, 1));
 }
 
@@ -327,8 +368,8 @@ void check_convert_after()
     expect("the most that is taken", is(simbolufa::convert_after(table, 2, 32000, renamed, after), 0, 0, 32001, 6));
     expect("more than that", is(simbolufa::convert_after(table, 2, 32001, renamed, after), 2, 0, 0, 0));
     expect("less than the options", is(simbolufa::convert_after(table, 2, 1, renamed, after), 2, 0, 0, 0));
-    expect("a symbol that is taken", is(simbolufa::convert_after(table, 1, 2, renamed, after), 3, 1, 0, 0));
-    expect("the record comes first", is(simbolufa::convert_after(table, 1, 0, renamed, after), 3, 1, 0, 0));
+    expect("a symbol that is taken", is(simbolufa::convert_after(table, 1, 2, renamed, after), 14, 1, 0, 0));
+    expect("the record comes first", is(simbolufa::convert_after(table, 1, 0, renamed, after), 14, 1, 0, 0));
     expect("the set comes after", is(simbolufa::convert_after(table, 2, 1, {}, after), 2, 0, 0, 0));
     expect("no set", is(simbolufa::convert_after(table, 2, 2, {}, after), 4, 4, 0, 0));
 }
@@ -346,7 +387,7 @@ void check_together()
     // By mistake this guard names symbol 3, which is the first guard's helper.
     const Bytes mistaken = {2, 1, 0, 0, 0, 2, 3, 0, 0, 0, 4, 0, 0, 1, 0};
     const Bytes before = second;
-    expect("a helper as a symbol", is(guards.convert(mistaken, Bytes(3), second), 3, 1, 0, 0));
+    expect("a helper as a symbol", is(guards.convert(mistaken, Bytes(3), second), 14, 1, 0, 0));
     expect("a refusal takes nothing", guards.variables() == 4 && second == before);
     expect("no room takes nothing", is(guards.convert(table, renamed, {}), 7, 0, 0, 0) && guards.variables() == 4);
     Bytes whole(160);
@@ -366,6 +407,7 @@ void check_together()
 int main()
 {
     check_calls();
+    check_sentences();
     check_sizes();
     check_texts();
     check_views();
