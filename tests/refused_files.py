@@ -99,11 +99,32 @@ TRUE = {
 }
 
 
+def fault_of(record, node, options):
+    """The number for a node's kind, a and b: 0 where nothing is wrong with them."""
+    kind, a, b = record
+    if kind > 7:
+        return 3
+    used = {0: 0, 1: 0, 2: 1, 3: 1}.get(kind, 2)
+    if any((a, b)[used:]):
+        return 12
+    if kind > 2 and any(child >= node for child in (a, b)[:used]):
+        return 13
+    return 14 if kind == 2 and not 1 <= a <= options else 0
+
+
 def is_true(text, number, place, words):
     """Whether the words are true of a text that is refused like this."""
-    if number != 10:
-        return words == WORDS.get(number)
-    return words in TRUE and TRUE[words](Line(text, place))
+    if number == 10:
+        return words in TRUE and TRUE[words](Line(text, place))
+    if words != WORDS.get(number):
+        return False
+    first, *lines = text.decode().splitlines()
+    options = int(first.split("\t")[1])
+    if number in (3, 12, 13, 14):
+        faults = [fault_of(map(int, line.split("\t")[1:]), node, options) for node, line in enumerate(lines)]
+        return faults[: place + 1] == [0] * place + [number]
+    # That 5, 6 and 7 are true is for others to say.
+    return {1: not lines, 2: options > 32_000}.get(number, True)
 
 
 def line_of(number, place):

@@ -214,6 +214,28 @@ void check_sentences()
     expect("a former name", SIMBOLUFA_REFUSED_RECORD == SIMBOLUFA_REFUSED_KIND);
 }
 
+// Words for drawn texts, whatever number and place are asked of them. Each text has exactly its own memory, so that a sanitizer
+// sees a byte that is read outside of it.
+void check_node_files()
+{
+    constexpr std::string_view right = "options\t2\n0\t2\t1\t0\n1\t3\t0\t0\n2\t4\t0\t1\n";
+    constexpr std::string_view drawn = "\t\t\n\n\r #;/*-+0019OopsxX\xEF\xBB\xBF\xFF\xFE";
+    std::mt19937 random(2);
+    for (int turn = 0; turn < 2000; turn++) {
+        std::string made(right.substr(0, random() % (right.size() + 1)));
+        for (size_t times = random() % 4; times > 0; times--)
+            made.insert(random() % (made.size() + 1), 1, drawn[random() % drawn.size()]);
+        const Bytes file(made.begin(), made.end());
+        bool holds = true;
+        for (uint32_t number = 0; number < 16; number++)
+            for (const uint32_t place : {0u, 1u, 2u, 3u, 4u, 5u, 1026u, UINT32_MAX}) {
+                const std::string_view words = simbolufa_node_file_sentence(file.data(), file.size(), number, place);
+                holds = holds && words.size() > 9 && words[0] >= 'a' && words[0] <= 't' && words.back() != '.';
+            }
+        expect("words for a drawn text", holds);
+    }
+}
+
 void check_sizes()
 {
     size_t needed = 0;
@@ -408,6 +430,7 @@ int main()
 {
     check_calls();
     check_sentences();
+    check_node_files();
     check_sizes();
     check_texts();
     check_views();
