@@ -1,6 +1,6 @@
 /*
- * The words of the command: how it is used, the refusals for its help, and the line about a refused node file. command.c
- * and why.c say them, so that the installed command and ./simbolufa speak alike.
+ * The words of the command: how it is used, the refusals for its help, and the line about a refused node file.
+ * command.c and why.c say them, so that the installed command and ./simbolufa speak alike.
  */
 #ifndef SIMBOLUFA_COMMAND_WORDS_H
 #define SIMBOLUFA_COMMAND_WORDS_H
@@ -14,15 +14,17 @@ static inline int print_usage(FILE *to)
 {
     return fputs("usage: simbolufa [FILE]\n"
                  "\n"
-                 "Reads a node file, FILE or standard input, and prints its clauses as DIMACS text. Where the node file is refused it\n"
-                 "prints one line: refused, the number and the place, parted by tabs. Then standard error says in words what is wrong,\n"
-                 "and in which line of the file. --help lists the numbers, and --version prints the version.\n"
+                 "Reads a node file, FILE or standard input, and prints its clauses as DIMACS text. Where the node\n"
+                 "file is refused it prints one line: refused, the number and the place, parted by tabs. Then\n"
+                 "standard error says in words what is wrong, and in which line of the file. --help lists the\n"
+                 "numbers, and --version prints the version.\n"
                  "\n"
-                 "The page NODEFILE.md says how a node file is written and how each refusal is mended. It stands in docs/ of the tree\n"
-                 "and in share/doc/simbolufa/ of an installation.\n"
+                 "The page NODEFILE.md says how a node file is written and how each refusal is mended. It stands in\n"
+                 "docs/ of the tree and in share/doc/simbolufa/ of an installation.\n"
                  "\n"
-                 "Exit status: 0 where clauses were printed, 1 where the node file was refused, 2 where nothing was converted. Then\n"
-                 "standard error says why: bad usage, a file that cannot be read, output that was not written, or a build that failed.\n",
+                 "Exit status: 0 where clauses were printed, 1 where the node file was refused, 2 where nothing was\n"
+                 "converted. Then standard error says why: bad usage, a file that cannot be read, output that was\n"
+                 "not written, or a build that failed.\n",
                  to);
 }
 
@@ -40,14 +42,16 @@ static inline int print_numbers(FILE *to)
     static const uint32_t numbers[] = {10, 1, 2, 3, 12, 13, 14, 5, 6, 7};
     size_t at;
     fputs("\n"
-          "The refusals, in the order in which they are looked at. Of 3, 12, 13 and 14 the lowest wrong node decides:\n"
+          "The refusals, in the order in which they are looked at. Of 3, 12, 13 and 14 the lowest wrong node\n"
+          "decides:\n"
           "\n",
           to);
     for (at = 0; at < sizeof numbers / sizeof numbers[0]; at++)
         fprintf(to, "  %2u  %s\n", (unsigned)numbers[at], words_of(numbers[at]));
     return fputs("\n"
-                 "The place of 10 is the line, counted from 1, or 0 where the file is too long. The place of 3, 12, 13 and 14 is the\n"
-                 "node, counted from 0, and node N stands in line N + 2. The place of the others is 0.\n",
+                 "The place of 10 is the line, counted from 1, or 0 where the file is too long. The place of 3, 12,\n"
+                 "13 and 14 is the node, counted from 0, and node N stands in line N + 2. The place of the others is\n"
+                 "0.\n",
                  to);
 }
 

@@ -275,7 +275,7 @@ static inline const char *simbolufa_sentence(uint32_t number)
     case SIMBOLUFA_REFUSED_SYMBOL:
         return "a symbol is not one of 1 to V, the option count";
     case SIMBOLUFA_REFUSED_SET:
-        return "the set has not one byte for each node, or has a byte that is not 0 or 1, or a 1 on a node that may not be renamed";
+        return "the set is not one byte 0 or 1 for each node, or has a 1 on a node that may not be renamed";
     case SIMBOLUFA_REFUSED_CLAUSES:
         return "there are 65,535 clauses or more";
     case SIMBOLUFA_REFUSED_LITERALS:

@@ -163,6 +163,11 @@ static inline int simbolufa_is_number(struct simbolufa_text_part field, uint32_t
     return field.at == field.end;
 }
 
+static inline const char *simbolufa_other_word(void)
+{
+    return "the first field is not the word options, with which a node file begins";
+}
+
 /* What is wrong with the fields of a line: empty words where nothing is. `line` is counted from 1. */
 static inline const char *simbolufa_fields_fault(struct simbolufa_text_part part, uint32_t line)
 {
@@ -178,7 +183,7 @@ static inline const char *simbolufa_fields_fault(struct simbolufa_text_part part
             return "a field is empty: there are two tabs in a row, or a tab at an end of the line";
     }
     if (count != wanted && line == 1)
-        return "line 1 needs two fields: the word options and the option count, with one tab between";
+        return "the first line needs two fields: the word options and the option count, with one tab between";
     if (count != wanted)
         return "a node line needs four fields: the node's number, its kind, a and b, with one tab between two";
     for (at = part.at, count = 0; at <= part.end; at = field.end + 1, count++) {
@@ -187,13 +192,13 @@ static inline const char *simbolufa_fields_fault(struct simbolufa_text_part part
         field.end = part.end;
         field.end = simbolufa_find(field, '\t');
         if (line == 1 && count == 0)
-            fault = simbolufa_is_word(field, "options", 0) ? "" : "the first field of line 1 is not the word options";
+            fault = simbolufa_is_word(field, "options", 0) ? "" : simbolufa_other_word();
         else
             fault = simbolufa_number_fault(field, line != 1 && count == 1 ? 255 : 65535);
         if (*fault != '\0')
             return fault;
         if (line != 1 && count == 0 && !simbolufa_is_number(field, line - 2))
-            return "the first field is not the node's number: nodes count 0, 1, 2 and so on, from line 2 on";
+            return "the first field is not the node's number: the nodes of a guard count 0, 1, 2 and so on";
     }
     return "";
 }
@@ -215,16 +220,15 @@ static inline const char *simbolufa_line_fault(struct simbolufa_text_part part, 
     if (!has_newline)
         return "the last line has no newline at its end";
     if (line == 1 && !simbolufa_is_word(word, "options", 0))
-        return simbolufa_is_word(word, "options", 1) ? "the word options is not in small letters"
-                                                     : "the first field of line 1 is not the word options";
+        return simbolufa_is_word(word, "options", 1) ? "the word options is not in small letters" : simbolufa_other_word();
     if (line != 1 && simbolufa_is_word(word, "options", 0))
-        return "a line with the word options stands behind line 1, and a node file is one guard";
+        return "the word options stands behind the first line, and a node file is one guard";
     if (simbolufa_has(part, ' '))
         return "the line has a space, and between two fields stands one tab";
     return simbolufa_fields_fault(part, line);
 }
 
-/* What is wrong with the line `line` of a text, from 1: empty words where nothing is. */
+/* What is wrong with the line `line` of a text, from 1: empty words where nothing is, or there is no such line. */
 static inline const char *simbolufa_text_fault(const uint8_t *text, size_t length, uint32_t line)
 {
     struct simbolufa_text_part part;
@@ -233,20 +237,20 @@ static inline const char *simbolufa_text_fault(const uint8_t *text, size_t lengt
     part.at = 0;
     part.end = length;
     if (length > 65536)
-        return "the file is over 65,536 bytes";
+        return "the node file is over 65,536 bytes";
     if (length == 0)
-        return "the file is empty";
+        return "the node file is empty";
     if (line == 0)
         return "";
     if (line == 1 && simbolufa_has_order_mark(text, length))
-        return "the file begins with a byte order mark";
+        return "the node file begins with a byte order mark";
     for (; before < line && part.at < length; before++) {
         part.at = simbolufa_find(part, '\n');
         if (part.at < length)
             part.at++;
     }
     if (part.at == length)
-        return "the line is missing";
+        return "";
     part.end = simbolufa_find(part, '\n');
     return simbolufa_line_fault(part, line, part.end < length);
 }

@@ -186,7 +186,7 @@ void check_sentences()
         "the table is empty, is not a multiple of 5 bytes, or is over 5,120 bytes",
         "the option count is over 32,000, or what is taken is below it or over 32,000",
         "the kind is none of 0 to 7",
-        "the set has not one byte for each node, or has a byte that is not 0 or 1, or a 1 on a node that may not be renamed",
+        "the set is not one byte 0 or 1 for each node, or has a 1 on a node that may not be renamed",
         "there are 65,535 clauses or more",
         "there are 1,000,000 literals or more",
         "the output needs more bytes than the buffer has",
@@ -204,18 +204,19 @@ void check_sentences()
         expect("a sentence", sentences[number] == told.sentence() && sentences[number] == simbolufa_sentence(number));
         const bool is_record = number == 3 || (number >= 12 && number <= 14);
         expect("a record", told.is_record() == is_record && simbolufa_is_record_refusal(number) == int{is_record});
-        expect("a line", simbolufa_line_of(number, 7) == (is_record ? 9 : number == 10 ? 7 : number == 2 ? 1 : number == 1 ? 2 : 0));
+        const uint32_t line = is_record ? 9 : number == 10 ? 7 : number == 2 ? 1 : number == 1 ? 2 : 0;
+        expect("a line", simbolufa_line_of(number, 7) == line);
     }
     expect("another number", simbolufa::answer{simbolufa_answer{UINT32_MAX, 0, 0, 0}}.sentence() == sentences[15]);
     const uint8_t capital[] = {'O', 'p', 't', 'i', 'o', 'n', 's', '\t', '2', '\n'};
     const std::string_view small = "the word options is not in small letters";
     expect("a node file", small == simbolufa_node_file_sentence(capital, sizeof capital, 10, 1));
-    expect("no node file", std::string_view("the file is empty") == simbolufa_node_file_sentence(nullptr, 0, 10, 1));
+    expect("no node file", std::string_view("the node file is empty") == simbolufa_node_file_sentence(nullptr, 0, 10, 1));
     expect("a former name", SIMBOLUFA_REFUSED_RECORD == SIMBOLUFA_REFUSED_KIND);
 }
 
-// Words for drawn texts, whatever number and place are asked of them. Each text has exactly its own memory, so that a sanitizer
-// sees a byte that is read outside of it.
+// Words for drawn texts, whatever number and place are asked of them. Each text has exactly its own memory, so that a
+// sanitizer sees a byte that is read outside of it.
 void check_node_files()
 {
     constexpr std::string_view right = "options\t2\n0\t2\t1\t0\n1\t3\t0\t0\n2\t4\t0\t1\n";
