@@ -84,9 +84,9 @@
  * The version of this header, and of the library that is installed with it. CHANGELOG.md says what may change in which
  * version.
  */
-#define SIMBOLUFA_VERSION "1.2.0"
-#define SIMBOLUFA_VERSION_MAJOR 1
-#define SIMBOLUFA_VERSION_MINOR 2
+#define SIMBOLUFA_VERSION "2.0.0"
+#define SIMBOLUFA_VERSION_MAJOR 2
+#define SIMBOLUFA_VERSION_MINOR 0
 #define SIMBOLUFA_VERSION_PATCH 0
 
 #ifdef __cplusplus
