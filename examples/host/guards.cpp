@@ -25,6 +25,11 @@ constexpr size_t longest_index = size_t{256} << 20;
 // One byte more shows that a node file is too long.
 constexpr size_t longest_kept = longest_node_file + 1;
 
+uint64_t newlines_in(std::string_view text)
+{
+    return static_cast<uint64_t>(std::count(text.begin(), text.end(), '\n'));
+}
+
 // Takes the node files of a file without an index. They come as parts of any length.
 class Pieces {
 public:
@@ -56,7 +61,7 @@ private:
 
     void keep(std::string_view part)
     {
-        newlines += static_cast<uint64_t>(std::count(part.begin(), part.end(), '\n'));
+        newlines += newlines_in(part);
         piece.append(part.substr(0, longest_kept - piece.size()));
     }
 
@@ -64,9 +69,9 @@ private:
     {
         number++;
         if (number == 1 && !has_next)
-            taker.take({path, "", piece});
+            taker.take({path, "", path, line, piece});
         else
-            taker.take({path + "#" + std::to_string(number), path + ":" + std::to_string(line), piece});
+            taker.take({path + "#" + std::to_string(number), path + ":" + std::to_string(line), path, line, piece});
         line += newlines;
         newlines = 0;
         piece.clear();
@@ -92,17 +97,20 @@ void take_file(const fs::path &path, GuardTaker &taker)
     pieces.end();
 }
 
-// Reads so many bytes, and keeps as many of them as can matter.
-void read_guard(File &set, uint64_t length, std::string &kept)
+// Reads so many bytes, and keeps as many of them as can matter. Gives how many lines end in them, kept or not.
+uint64_t read_guard(File &set, uint64_t length, std::string &kept)
 {
+    uint64_t newlines = 0;
     kept.clear();
     while (length > 0) {
         const std::string_view part = set.read(length);
         if (part.empty())
             throw Unreadable("it became shorter while it was read");
+        newlines += newlines_in(part);
         kept.append(part.substr(0, longest_kept - kept.size()));
         length -= part.size();
     }
+    return newlines;
 }
 
 // Takes guards.txt by its index.
@@ -118,10 +126,13 @@ void take_set(const fs::path &path, const fs::path &index, GuardTaker &taker)
         taker.miss(index, fault.what());
         return take_file(path, taker);
     }
+    const std::string file = path.string();
     std::string kept;
+    uint64_t line = 1;
     for (const IndexRow &row : rows) {
-        read_guard(set, row.length, kept);
-        taker.take({std::string(row.id), std::string(row.source), kept});
+        const uint64_t newlines = read_guard(set, row.length, kept);
+        taker.take({std::string(row.id), std::string(row.source), file, line, kept});
+        line += newlines;
     }
 }
 

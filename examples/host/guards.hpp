@@ -3,6 +3,7 @@
 #ifndef GUARDS_HPP
 #define GUARDS_HPP
 
+#include <cstdint>
 #include <filesystem>
 #include <string>
 #include <string_view>
@@ -14,6 +15,9 @@ struct Guard {
     std::string name;
     // Where the guard stands, as a file and a line. Empty where the name says it.
     std::string source;
+    // The file that the text stands in, and the line of the file on which it begins, from 1.
+    std::string file;
+    uint64_t line;
     std::string_view text;
 };
 

@@ -4,7 +4,9 @@
 // their clauses share the project's options and no helper. Then all clauses are solved together.
 
 #include "file.hpp"
+#include "guards.hpp"
 #include "node_file.hpp"
+#include "refusal.hpp"
 #include "shown.hpp"
 #include "solver.hpp"
 
@@ -21,6 +23,7 @@
 namespace {
 
 constexpr uint32_t allowance = 1024;
+constexpr uint32_t most_options = 32000;
 constexpr int most_conflicts = 1000000;
 // Exit status, beside 0.
 constexpr int refused_or_undecided = 1;
@@ -81,23 +84,31 @@ int say(Verdict verdict, int count)
     return refused_or_undecided;
 }
 
+void say_refusal(const Guard &guard, const simbolufa::answer &told, uint32_t options)
+{
+    // A refusal of the options may be about variables, and then no line of this guard's file is wrong.
+    const bool is_over = told.number == SIMBOLUFA_REFUSED_OPTIONS && options <= most_options;
+    const std::string said = is_over ? "the guards before it take variables over 32,000" : sentence_of(guard, told);
+    std::fprintf(stderr, "%s\n", refusal_line(guard, told, said).c_str());
+}
+
 int run(int count, char **paths)
 {
     NodeFile file;
     std::optional<Nest> nest;
     for (int at = 0; at < count; at++) {
-        simbolufa::answer told = read_node_file(read_whole(paths[at], longest_node_file), file);
+        const std::string text = read_whole(paths[at], longest_node_file);
+        simbolufa::answer told = read_node_file(text, file);
         if (told) {
             if (!nest)
                 nest.emplace(file.options);
             told = nest->add(file);
         }
-        const std::string name = shown(paths[at]);
         if (!told) {
-            std::fprintf(stderr, "%s\trefused\t%u\t%u\n", name.c_str(), told.number, told.place);
+            say_refusal({paths[at], "", paths[at], 1, text}, told, file.options);
             return refused_or_undecided;
         }
-        std::printf("%s\t%u clauses\t%u variables so far\n", name.c_str(), told.second, told.first);
+        std::printf("%s\t%u clauses\t%u variables so far\n", shown(paths[at]).c_str(), told.second, told.first);
     }
     return say(nest->ask(), count);
 }

@@ -29,23 +29,40 @@ constexpr uint32_t allowance = 1024;
 constexpr size_t most_nodes = 1024;
 constexpr int bad_usage = 2;
 
-constexpr char help[] = "nightly [--quiet] [--times] [--conflicts N] PATH...\n"
-                        "\n"
-                        "Says which branches can never be compiled. A PATH is a node file, a file of several node\n"
-                        "files, or a folder of such files. guards.txt with index.tsv beside it is read by its index.\n"
-                        "Hidden files and backups in a folder are passed over: `.x`, `x~`, `#x#`.\n"
-                        "\n"
-                        "  --quiet         only dead branches, refusals and what is not decided or not read\n"
-                        "  --times         how long each step took\n"
-                        "  --conflicts N   when the solver gives up on a guard, 1000000 if it is not given\n"
-                        "  --help          this text\n"
-                        "\n"
-                        "Dead branches go to standard output, one a line: name, `never compiled`, source.\n"
-                        "Refusals go to standard error, one a line: name, `refused`, number, place, source.\n"
-                        "\n"
-                        "Exit status: 0 all guards converted and decided, 1 a guard refused or undecided,\n"
-                        "2 bad usage, a path not read or a line not written, 128 and the number of a signal that\n"
-                        "ended the pass.\n";
+constexpr char usage[] = "nightly [--quiet] [--times] [--conflicts N] PATH...\n"
+                         "\n"
+                         "Says which branches can never be compiled. A PATH is a node file, a file of several node\n"
+                         "files, or a folder of such files. guards.txt with index.tsv beside it is read by its index.\n"
+                         "Hidden files and backups in a folder are passed over: `.x`, `x~`, `#x#`.\n"
+                         "\n"
+                         "  --quiet         only dead branches, refusals and what is not decided or not read\n"
+                         "  --times         how long each step took\n"
+                         "  --conflicts N   when the solver gives up on a guard, 1000000 if it is not given\n"
+                         "  --help          this text\n"
+                         "\n"
+                         "Dead branches go to standard output, one a line: name, `never compiled`, source.\n"
+                         "Refusals go to standard error, one a line: name, `refused`, number, place, source, FILE:LINE,\n"
+                         "what is wrong. LINE is the line to mend, counted in the whole FILE. Where no one line is\n"
+                         "wrong, it is the one on which the guard begins. Numbers, as they are looked at:\n"
+                         "\n";
+
+constexpr char exits[] = "\n"
+                         "Exit status: 0 all guards converted and decided, 1 a guard refused or undecided,\n"
+                         "2 bad usage, a path not read or a line not written, 128 and the number of a signal that\n"
+                         "ended the pass.\n";
+
+// The refusals that a guard can meet here, in the order in which they are looked at.
+constexpr uint32_t refusals[] = {SIMBOLUFA_REFUSED_NODE_FILE, SIMBOLUFA_REFUSED_TABLE_LENGTH, SIMBOLUFA_REFUSED_OPTIONS,
+                                 SIMBOLUFA_REFUSED_KIND,      SIMBOLUFA_REFUSED_UNUSED_FIELD, SIMBOLUFA_REFUSED_CHILD,
+                                 SIMBOLUFA_REFUSED_SYMBOL,    SIMBOLUFA_REFUSED_CLAUSES,      SIMBOLUFA_REFUSED_LITERALS};
+
+std::string help()
+{
+    std::string text = usage;
+    for (const uint32_t number : refusals)
+        text += (number < 10 ? "   " : "  ") + std::to_string(number) + "  " + simbolufa_sentence(number) + "\n";
+    return text + exits;
+}
 
 // What the command asks for.
 struct Command {
@@ -190,7 +207,7 @@ void keep_standard_descriptors()
 int say_help()
 {
     Output output(STDOUT_FILENO);
-    output.write(help);
+    output.write(help());
     return output.has_failed() ? bad_usage : 0;
 }
 
@@ -222,7 +239,7 @@ int main(int count, char **words)
         Command command;
         const std::string fault = read_words(count, words, command);
         if (!fault.empty()) {
-            std::fprintf(stderr, "nightly: %s\n%s", fault.c_str(), help);
+            std::fprintf(stderr, "nightly: %s\n%s", fault.c_str(), help().c_str());
             return bad_usage;
         }
         return command.help ? say_help() : run(command);

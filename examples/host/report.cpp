@@ -2,6 +2,7 @@
 
 #include "report.hpp"
 
+#include "refusal.hpp"
 #include "shown.hpp"
 
 #include <poll.h>
@@ -77,7 +78,7 @@ void Report::undecided(const Guard &guard)
 void Report::refused(const Guard &guard, const simbolufa::answer &answer)
 {
     refused_guards[answer.number]++;
-    say(told, line_of(guard, "refused\t" + std::to_string(answer.number) + "\t" + std::to_string(answer.place)));
+    say(told, refusal_line(guard, answer, sentence_of(guard, answer)));
 }
 
 void Report::missed(const std::string &path, const std::string &why)
