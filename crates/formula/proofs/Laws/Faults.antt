@@ -1,4 +1,5 @@
--- The faults of a record (R10.12, R10.20 to R10.24): what has none, which number each has and in what order, and that the lowest faulty node decides.
+-- The faults of a record (R10.12, R10.20 to R10.25): what has none, which number each has, and in what order. The lowest faulty
+-- node decides.
 -- What follows from a table without a fault is in WellFormed.
 -- Assumes nothing.
 use mathlib.Core.Path.{_≡_, refl, sym, ap, _∙_}
