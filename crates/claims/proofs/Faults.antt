@@ -1,12 +1,13 @@
 -- Every call that is handed a table passes its lowest fault on.
 -- Assumes nothing.
-use mathlib.Core.Path.{_≡_, ap, _∙_}
+use mathlib.Core.Path.{_≡_, refl, sym, ap, _∙_}
 use mathlib.Core.Bool.{not, true}
 use Prim.Native.Nat.{ℕ}
 use borrow.Author.Tests.{ne-eqb}
 use Rattle.answer.specs.Answers.{toldOf, refuses, after, bytesOf, Wrote, afterwards}
 use Rattle.answer.specs.declared.Answer.{Answer}
 use Rattle.answer.specs.declared.Answer.the-variants.{Record}
+use Rattle.answer.proofs.Laws.Order.{refused-first, refused-wrote}
 use Rattle.formula.specs.Checks.{checked}
 use Rattle.formula.specs.Tables.{nodeAt, faultOf}
 use Rattle.formula.proofs.Laws.Faults.{lowest-decides}
@@ -14,14 +15,6 @@ use Rattle.claims.specs.Calls.{Seen, Guard, checkGuard, checkSeen, measu
 use Rattle.claims.specs.Calls.{convertGuard, convertSeen, afterGuard, afterSeen}
 use Rattle.claims.specs.Claims.{Answers, Faulty, TellsFault, Faults}
 use Rattle.claims.proofs.Demands.{demand1}
-
--- a refusal stands, whatever comes after it
-after-refused : (a r next : Answer) → a ≡ r → refuses r ≡ true → after a next ≡ r
-after-refused a r next e f = rw (ap refuses e ∙ f) e
-
-afterwards-refused : {O : Type 0} (a r : Answer) (before : O) (w : Wrote O) → a ≡ r → refuses r ≡ true
-    → afterwards a before w .answer ≡ r
-afterwards-refused a r before w e f = rw (ap refuses e ∙ f) e
 
 module _ (g : Guard) (j : ℕ) (h : Faulty g j) where
   abbrev told : Answer
@@ -39,12 +32,15 @@ module _ (g : Guard) (j : ℕ) (h : Faulty g j) where
       let right = says .right-part size in
       (right .0 ∙ ap (λ (x : Answer). toldOf x .number) e, right .1 ∙ ap (λ (x : Answer). bytesOf (toldOf x)) e)
 
+  -- a refusal stands, whatever comes after it
   tells-after : {O : Type 0} {s : Seen O} (next : Answer) → Answers (after (checked (g .table) (g .options)) next) s → TellsFault g j s
-  tells-after next says = tells _ says (after-refused _ told next found is-refusal)
+  tells-after next says = tells _ says (sym (refused-first told (checked (g .table) (g .options)) true (sym found) (sym is-refusal) next refl))
 
   tells-afterwards : {O P : Type 0} {s : Seen O} (before : P) (w : Wrote P)
       → Answers (afterwards (checked (g .table) (g .options)) before w .answer) s → TellsFault g j s
-  tells-afterwards before w says = tells _ says (afterwards-refused _ told before w found is-refusal)
+  tells-afterwards {P = P} before w says =
+      let stands = refused-wrote told (checked (g .table) (g .options)) true (sym found) (sym is-refusal) before w refl in
+      tells _ says (sym (ap (λ (x : Wrote P). x .answer) stands))
 
 pub faults : Faults
 faults = record {
