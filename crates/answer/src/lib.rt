@@ -34,6 +34,10 @@ pub enum Answer {
     Line { line: u32 },
     // The host's answer part is not 16 bytes long.
     AnswerPart,
+    // There is no clause with this number.
+    NoClause { clause: u32 },
+    // A list of names breaks its rules.
+    Names,
 }
 
 // The four numbers of an answer.
@@ -78,6 +82,8 @@ pub fn tell(answer: Answer) -> Told
         Answer::ClauseBytes => refusal(9, 0),
         Answer::Line { line } => refusal(10, line as usize),
         Answer::AnswerPart => refusal(11, 0),
+        Answer::NoClause { clause } => refusal(15, clause as usize),
+        Answer::Names => refusal(16, 0),
     }
 }
 

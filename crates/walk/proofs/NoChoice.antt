@@ -8,6 +8,8 @@ use denote.Triple.Clauses.{AtExit}
 use borrow.Fn.Kinds.{Dens, endedOf, resT}
 use Rattle.walk.proofs.clause.write_own.Kinds as write-own-kinds
 use Rattle.walk.proofs.clause.write_own.Reads as write-own
+use Rattle.walk.proofs.step.lead.Kinds as lead-kinds
+use Rattle.walk.proofs.step.lead.Reads as lead
 use Rattle.walk.proofs.count.own_count.Kinds as own-count-kinds
 use Rattle.walk.proofs.count.own_count.Reads as own-count
 
@@ -20,3 +22,8 @@ pub write-own-settled : (κs : Lfts 7) (a : Dens κs write-own-kinds.ps) (r q : 
     (s t : AtExit (endedOf 7 write-own-kinds.ps write-own-kinds.r) κs)
     → write-own.Post κs a r s → write-own.Post κs a q t → (r ≡ q) × (now (s .1 .1 .1 .1 .0) ≡ now (t .1 .1 .1 .1 .0))
 write-own-settled κs a r q s t e f = (e .place ∙ sym (f .place), e .ref ∙ sym (f .ref))
+
+pub lead-settled : (κs : Lfts 5) (a : Dens κs lead-kinds.ps) (r q : resT lead-kinds.r κs .Denot)
+    (s t : AtExit (endedOf 5 lead-kinds.ps lead-kinds.r) κs)
+    → lead.Post κs a r s → lead.Post κs a q t → r ≡ q
+lead-settled κs a r q s t e f = e ∙ sym f

@@ -1,4 +1,4 @@
 // The walk to clause k of a node, and its literals written.
 pub mod clause;
 pub mod count;
-mod step;
+pub mod step;
