@@ -1,0 +1,56 @@
+-- A clause, literal by literal: the ways that wait to be gone, in an array, the next one last.
+-- Assumes nothing: these are definitions.
+use mathlib.Core.Bool.{Bool, true, false, cond}
+use mathlib.Core.List.{List, [], _∷_, _++_}
+use mathlib.Core.Path.{_≡_}
+use Prim.Native.Nat.{ℕ, zero, suc, _+_, _*_, _/_, _%_, _<_, _≤_}
+use lib.Dec.{eqb}
+use lib.ListN.{length, getD}
+use Rattle.formula.specs.Tables.{mostNodes, nodeCount, nodesOf}
+use Rattle.formula.specs.declared.node.Node.{Node}
+use Rattle.clausal.specs.Clauses.{Clause}
+use Rattle.clausal.specs.Totals.{clauseCeiling}
+use Rattle.walk.specs.Inner.Lists.{namesIn, ownList, seenList}
+use Rattle.walk.specs.Inner.Steps.{wayClause}
+use Rattle.walk.specs.Inner.Written.{Writable}
+use Rattle.walk.specs.declared.step.Way.{Way}
+use Rattle.literals.specs.declared.literal.Found.{Found}
+
+-- a way as one number: the clause's number, the node, and the sign
+abbrev pub packed : Way → ℕ
+packed w = (w .k * 1_024 + w .node) * 2 + cond (w .sign) 1 0
+
+abbrev pub wayOf : ℕ → Way
+wayOf x = record { node = x / 2 % 1_024; sign = eqb (x % 2) 1; k = x / 2_048 }
+
+-- the literals of the first d ways of an array, the last way first
+unfoldable pub waitingClause : (ℕ → ℕ) → List Node → List ℕ → ℕ → Clause
+waitingClause name ns ways zero = []
+waitingClause name ns ways (suc d) = wayClause name ns (wayOf (getD ways d 0)) ++ waitingClause name ns ways d
+
+-- a way that waits at place i: it leads to a clause of a list below the ceiling, and no more ways wait than nodes are left
+pub record WayRight (name : ℕ → ℕ) (ns : List Node) (i : ℕ) (w : Way) : Type 0 where
+  pub room : w .node + i < mostNodes
+  pub inside : w .node < length ns
+  pub has : w .k < length (seenList name ns (w .node) (w .sign))
+  pub short : length (seenList name ns (w .node) (w .sign)) < clauseCeiling
+
+-- the first d ways of an array wait
+pub record Waiting (t : List ℕ) (cs ls : List (List ℕ)) (helpers ways : List ℕ) (d : ℕ) : Type 0 where
+  pub writable : Writable t cs ls helpers
+  pub size : length ways ≡ 1_024
+  pub most : d ≤ mostNodes
+  pub each : (i : ℕ) → i < d → WayRight (namesIn helpers) (nodesOf t) i (wayOf (getD ways i 0))
+
+-- clause k of a node's own list, in a list below the ceiling
+pub record Startable (t : List ℕ) (cs ls : List (List ℕ)) (helpers : List ℕ) (n : ℕ) (sign : Bool) (k : ℕ) : Type 0 where
+  pub writable : Writable t cs ls helpers
+  pub inside : n < nodeCount t
+  pub has : k < length (ownList (namesIn helpers) (nodesOf t) n sign)
+  pub short : length (ownList (namesIn helpers) (nodesOf t) n sign) < clauseCeiling
+
+-- the first literal of a clause was found, and the others wait; or the clause has none
+pub record FirstOf (t : List ℕ) (cs ls : List (List ℕ)) (helpers : List ℕ) (c : Clause) (f : Found) (ways : List ℕ) : Type 0 where
+  pub waiting : Waiting t cs ls helpers ways (f .depth)
+  pub clause : c ≡ cond (f .is)
+      (record { plain = f .plain; variable = f .variable } ∷ waitingClause (namesIn helpers) (nodesOf t) ways (f .depth)) []

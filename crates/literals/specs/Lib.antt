@@ -1,0 +1,2 @@
+-- A clause, literal by literal.
+pub mod Inner

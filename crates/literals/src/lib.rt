@@ -1,0 +1,2 @@
+// The literals of a clause, one after the other.
+pub mod literal;

@@ -1,0 +1,3 @@
+-- Lists of names.
+pub mod Names
+pub mod Inner
