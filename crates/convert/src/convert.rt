@@ -6,7 +6,7 @@ ghost use Rattle.laws.specs.Lists.{splice};
 ghost use Rattle.clausal.specs.Clauses.{renaming, variablesOf};
 ghost use Rattle.capped.specs.Inner.Sized.{sized};
 ghost use Rattle.clausal.specs.Calls.{takenChecked, convertedUnder, converted, convertedAfter};
-ghost use Rattle.convert.specs.Inner.Fitted.{fitted, writtenUnder, outputBytes, Convertible, Settled, Measured, Fitting};
+ghost use Rattle.convert.specs.Inner.Fitted.{fitted, writtenUnder, outputBytes, Convertible, Measured, Fitting};
 use answer::Answer;
 use answer::is_refusal;
 use capped::total::ClauseTotal;
@@ -14,11 +14,9 @@ use capped::total::LiteralTotal;
 use capped::total::Total;
 use formula::node::MOST_NODES;
 use formula::node::MOST_OPTIONS;
-use marks::mark::mark_all;
 use parts::helper::name_all;
 use parts::part::write_all;
-use totals::rows::fill;
-use totals::whole::whole;
+use totals::prepare::prepare;
 
 // Whether totals are below their ceilings, and a buffer has room for the output.
 fn fit(sum: Total, room: usize) -> Answer
@@ -89,25 +87,6 @@ fn write_under(
     }
 }
 
-// Converts a table under a set, both of which are right.
-fn convert_settled(
-    table: &[u8],
-    taken: u32,
-    marks: &[u8; 1024],
-    set: &[u8],
-    out: &mut [u8],
-) -> Answer
-    requires { ⌜ Settled (now table) taken (now marks) (now set) ⌝ }
-    ensures { λ r. ⌜ record { answer = r; output = now (out .exit) } ≡ writtenUnder (renaming taken (now (set .entry)))
-        (nodesOf (now (table .entry))) (now (out .entry)) ⌝ }
-{
-    let mut clauses = [[0u16; MOST_NODES]; 2];
-    let mut literals = [[0u32; MOST_NODES]; 2];
-    fill(table, set, 0, &mut clauses, &mut literals);
-    let sum = whole(table, marks, set, 0, &clauses, &literals);
-    write_under(table, taken, marks, set, &clauses, &literals, sum, out)
-}
-
 // Checks a set for a table that is right, and converts, with helpers after what is taken.
 fn convert_under(table: &[u8], taken: u32, set: &[u8], out: &mut [u8]) -> Answer
     requires { ⌜ Convertible (now table) taken ⌝ }
@@ -115,12 +94,15 @@ fn convert_under(table: &[u8], taken: u32, set: &[u8], out: &mut [u8]) -> Answer
         (nodesOf (now (table .entry))) (now (out .entry)) ⌝ }
 {
     let mut marks = [0u8; MOST_NODES];
-    mark_all(table, &mut marks);
-    let right = marks::set::check(table, &marks, set);
+    let mut clauses = [[0u16; MOST_NODES]; 2];
+    let mut literals = [[0u32; MOST_NODES]; 2];
+    let prepared = prepare(table, set, &mut marks, &mut clauses, &mut literals);
+    let right = prepared.right;
     if is_refusal(right) {
         return right;
     }
-    convert_settled(table, taken, &marks, set, out)
+    let sum = prepared.sum;
+    write_under(table, taken, &marks, set, &clauses, &literals, sum, out)
 }
 
 // Whether what is taken has all options, and no more than a project may have.

@@ -27,6 +27,9 @@ use Rattle.totals.proofs.whole.whole.Kinds as whole-kinds
 use Rattle.totals.proofs.whole.whole.Reads as whole
 use Rattle.totals.proofs.trial.trial.Kinds as trial-kinds
 use Rattle.totals.proofs.trial.trial.Reads as trial
+use Rattle.totals.proofs.Laws.Prepared.{prepared-same, marks-same, clauses-same, literals-same}
+use Rattle.totals.proofs.prepare.prepare.Kinds as prepare-kinds
+use Rattle.totals.proofs.prepare.prepare.Reads as prepare
 use Rattle.totals.proofs.measure.measure.Kinds as measure-kinds
 use Rattle.totals.proofs.measure.measure.Reads as measure
 
@@ -96,3 +99,15 @@ pub measure-settled : (κs : Lfts 2) (a : Dens κs measure-kinds.ps) (r q : resT
     (s t : AtExit (endedOf 2 measure-kinds.ps measure-kinds.r) κs)
     → measure.Post κs a r s → measure.Post κs a q t → r ≡ q
 measure-settled κs a r q s t e f = e ∙ sym f
+
+pub prepare-settled : (κs : Lfts 5) (a : Dens κs prepare-kinds.ps) (r q : resT prepare-kinds.r κs .Denot)
+    (s t : AtExit (endedOf 5 prepare-kinds.ps prepare-kinds.r) κs)
+    → prepare.Post κs a r s → prepare.Post κs a q t
+    → (r ≡ q) × (now (s .1 .1 .0) ≡ now (t .1 .1 .0)) × (now (s .1 .1 .1 .0) ≡ now (t .1 .1 .1 .0))
+    × (now (s .1 .1 .1 .1 .0) ≡ now (t .1 .1 .1 .1 .0))
+prepare-settled κs a r q s t e f = (
+  prepared-same _ _ _ _ _ _ _ _ _ _ e f,
+  marks-same _ _ _ _ _ _ _ _ _ _ e f,
+  clauses-same _ _ _ _ _ _ _ _ _ _ e f,
+  literals-same _ _ _ _ _ _ _ _ _ _ e f,
+)

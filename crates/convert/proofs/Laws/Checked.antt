@@ -15,7 +15,13 @@ use Rattle.formula.specs.Inner.Right.{Right}
 use Rattle.formula.specs.Tables.{mostOptions, nodesOf}
 use Rattle.formula.proofs.Laws.WellFormed.{accepts, checked-accepted, length-right, accepted-well-formed}
 use Rattle.clausal.specs.Calls.{takenChecked, converted, convertedAfter}
-use Rattle.convert.specs.Inner.Fitted.{Convertible}
+use Rattle.marks.specs.Sets.{setChecked}
+use Rattle.marks.proofs.Laws.Sets.{set-accepted}
+use Rattle.capped.specs.Inner.Sized.{sized}
+use Rattle.totals.specs.Inner.Prepared.{Prepares}
+use Rattle.totals.specs.declared.prepare.Prepared.{Prepared}
+use Rattle.totals.proofs.Laws.Prepared.{sum-is}
+use Rattle.convert.specs.Inner.Fitted.{Convertible, Measured}
 
 module _ (t : List ℕ) (v : ℕ) (ok : refuses (checked t v) ≡ false) where
   right : Right t v
@@ -30,6 +36,17 @@ module _ (t : List ℕ) (v : ℕ) (ok : refuses (checked t v) ≡ false) where
 
   pub few-options : v ≤ mostOptions
   few-options = right .options
+
+-- what was prepared for a right set
+pub measured-of : {t s : List ℕ} {taken : ℕ} {p : Prepared} {marks : List ℕ} {cs ls : List (List ℕ)} → Convertible t taken
+    → Prepares t s p marks cs ls → refuses (setChecked (nodesOf t) s) ≡ false → Measured t taken marks s cs ls (sized (p .sum))
+measured-of {t} {s} {taken} {p} {marks} {cs} {ls} c a ok = record {
+  prepared = record {
+    settled = record { convertible = c; marked = a .marked; set = set-accepted (nodesOf t) s ok };
+    ready = a .ready ok;
+  };
+  whole = ap sized (sum-is t s p marks cs ls a ok);
+}
 
 -- what is taken
 pub record Taken (v taken : ℕ) : Type 0 where

@@ -2,40 +2,38 @@
 use mathlib.Core.Bool.{false}
 use borrow.Author.Needs.{needs}
 use Rattle.answer.proofs.Laws.Order.{tested, refused-wrote, accepted-wrote}
-use Rattle.formula.specs.Tables.{nodesOf}
-use Rattle.marks.proofs.Laws.Sets.{set-accepted}
+use Rattle.totals.proofs.Laws.Prepared.{right-is}
+use Rattle.convert.proofs.Laws.Checked.{measured-of}
 use Rattle.convert.proofs.convert.convert_under.Statement.{statement}
 use Rattle.convert.proofs.convert.convert_under.Tie as tie
 
 set-refused : tie.Need-returns
 set-refused c =
-    let check = c .before .before in
-    let toward-start = check .before .before .before .before in
+    let prepare = c .before .before in
+    let toward-start = prepare .before .before .before .before in
     let start = toward-start .before .before .before in
-    refused-wrote _ _ _ (check .check .ensures) (c .before .is-refusal .ensures) (start .args .out .now) _ (c .if1 .taken)
+    refused-wrote _ _ _ (right-is _ _ _ _ _ _ (prepare .prepare .ensures)) (c .before .is-refusal .ensures) (start .args .out .now) _
+    (c .if1 .taken)
 
-settled : tie.Need-convert-settled-requires
-settled c κs =
-    let if1 = c .before .before in
-    let check = if1 .before .before in
-    let marks = check .before .before in
-    let start = marks .before .before .before .before in
-    let e = tested _ _ _ (check .check .ensures) (if1 .before .is-refusal .ensures) false (if1 .if1 .left) in
-    record {
-      convertible = start .before .pre;
-      marked = record { size = start .before .pre .right .size; are = marks .mark-all .ensures };
-      set = set-accepted (nodesOf (start .before .args .table .now)) (start .before .args .set .now) e;
-    }
+measured : tie.Need-write-under-requires
+measured c κs =
+    let if1 = c .before .before .before .before .before in
+    let test = if1 .before in
+    let made = test .before .prepare .ensures in
+    let toward-start = test .before .before .before .before in
+    let start = toward-start .before .before .before .before in
+    measured-of (start .pre) made
+    (tested _ _ _ (right-is _ _ _ _ _ _ made) (test .is-refusal .ensures) false (if1 .if1 .left))
 
 converted : tie.Need-returns-2
 converted c =
-    let convert = c .before .before in
-    let if1 = convert .before .before .before in
-    let check = if1 .before .before in
-    let toward-start = check .before .before .before .before in
-    let start = toward-start .before .before .before in
-    accepted-wrote _ _ _ (check .check .ensures) (if1 .before .is-refusal .ensures) (start .args .out .now) _ _ (if1 .if1 .left)
-    (convert .convert-settled .ensures)
+    let write = c .before .before in
+    let if1 = write .before .before .before .before .before .before in
+    let test = if1 .before in
+    let toward-start = test .before .before .before .before in
+    let start = toward-start .before .before .before .before in
+    accepted-wrote _ _ _ (right-is _ _ _ _ _ _ (test .before .prepare .ensures)) (test .is-refusal .ensures) (start .args .out .now) _ _
+    (if1 .if1 .left) (write .write-under .ensures)
 
 pub convert-under-spec : {M : Type 1} → statement M
 convert-under-spec =
@@ -43,8 +41,7 @@ convert-under-spec =
     (tie.spec
     (λ c κs. search needs)
     (λ c κs. search needs)
-    (λ c κs. search needs)
     set-refused
-    settled
+    measured
     (λ c. search needs)
     converted)
