@@ -13,7 +13,7 @@ use Rattle.formula.specs.declared.node.Node.{Node}
 use Rattle.clausal.specs.Clauses.{clauses}
 use Rattle.clausal.specs.Clauses.{Clause}
 use Rattle.clausal.specs.Output.{Part, partsOf, gather, outputOf}
-use Rattle.clausal.specs.Inner.Places.{Place, further, placeIn, startOf, contentsOf, countsOf, contentIn, Stands}
+use Rattle.clausal.specs.Places.{Place, further, placeIn, startOf, contentsOf, countsOf, contentIn, Stands}
 use Rattle.clausal.specs.Clauses.{Renaming}
 use Rattle.clausal.proofs.Clauses.{clause-left, clause-right}
 

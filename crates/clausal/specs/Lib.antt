@@ -1,6 +1,7 @@
 -- The clausal transformation, in the order of the rules.
 pub mod Clauses
 pub mod Output
+pub mod Places
 pub mod Totals
 pub mod Calls
 pub mod Meanings

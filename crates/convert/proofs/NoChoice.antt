@@ -9,6 +9,8 @@ use contract.Lifetimes.{Lfts}
 use denote.Ref.{now}
 use denote.Triple.Clauses.{AtExit}
 use borrow.Fn.Kinds.{Dens, endedOf, resT}
+use Rattle.convert.proofs.convert.below.Kinds as below-kinds
+use Rattle.convert.proofs.convert.below.Reads as below
 use Rattle.convert.proofs.convert.convert.Kinds as convert-kinds
 use Rattle.convert.proofs.convert.convert.Reads as convert
 use Rattle.convert.proofs.convert.convert_after.Kinds as convert-after-kinds
@@ -26,3 +28,8 @@ pub convert-after-settled : (κs : Lfts 3) (a : Dens κs convert-after-kinds.ps)
     (s t : AtExit (endedOf 3 convert-after-kinds.ps convert-after-kinds.r) κs)
     → convert-after.Post κs a r s → convert-after.Post κs a q t → (r ≡ q) × (now (s .1 .1 .1 .1 .0) ≡ now (t .1 .1 .1 .1 .0))
 convert-after-settled κs a r q s t e f = both (e ∙ sym f)
+
+pub below-settled : (κs : Lfts 0) (a : Dens κs below-kinds.ps) (r q : resT below-kinds.r κs .Denot)
+    (s t : AtExit (endedOf 0 below-kinds.ps below-kinds.r) κs)
+    → below.Post κs a r s → below.Post κs a q t → r ≡ q
+below-settled κs a r q s t e f = e ∙ sym f

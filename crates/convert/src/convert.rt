@@ -5,7 +5,7 @@ ghost use Rattle.formula.specs.Tables.{nodesOf};
 ghost use Rattle.laws.specs.Lists.{splice};
 ghost use Rattle.clausal.specs.Clauses.{renaming, variablesOf};
 ghost use Rattle.capped.specs.Inner.Sized.{sized};
-ghost use Rattle.clausal.specs.Calls.{takenChecked, convertedUnder, converted, convertedAfter};
+ghost use Rattle.clausal.specs.Calls.{ceilings, takenChecked, convertedUnder, converted, convertedAfter};
 ghost use Rattle.convert.specs.Inner.Fitted.{fitted, writtenUnder, outputBytes, Convertible, Measured, Fitting};
 use answer::Answer;
 use answer::is_refusal;
@@ -18,18 +18,34 @@ use parts::helper::name_all;
 use parts::part::write_all;
 use totals::prepare::prepare;
 
-// Whether totals are below their ceilings, and a buffer has room for the output.
-fn fit(sum: Total, room: usize) -> Answer
-    ensures { λ r. ⌜ r ≡ fitted (sized sum) room ⌝ }
+// Whether totals are below their ceilings.
+pub fn below(sum: Total) -> Answer
+    ensures { λ r. ⌜ r ≡ ceilings (sized sum) ⌝ }
 {
     let clauses = sum.clauses;
     let literals = sum.literals;
-    let bytes = 4 * (clauses.n as usize + literals.n as usize);
     if clauses.n >= ClauseTotal::CEILING {
         return Answer::Clauses;
     }
     if literals.n >= LiteralTotal::CEILING {
         return Answer::Literals;
+    }
+    Answer::Accepted {
+        first: 0,
+        second: 0,
+    }
+}
+
+// Whether totals are below their ceilings, and a buffer has room for the output.
+fn fit(sum: Total, room: usize) -> Answer
+    ensures { λ r. ⌜ r ≡ fitted (sized sum) room ⌝ }
+{
+    let high = below(sum);
+    let clauses = sum.clauses;
+    let literals = sum.literals;
+    let bytes = 4 * (clauses.n as usize + literals.n as usize);
+    if is_refusal(high) {
+        return high;
     }
     if room < bytes {
         return Answer::Room;

@@ -10,9 +10,9 @@ use lib.Dec.{eqb}
 use lib.ListN.{length, getD}
 use borrow.Author.Tests.{eq-eqb, eqb-true}
 use Rattle.laws.proofs.Choices.{both}
-use Rattle.text.specs.Texts.{decimal, valueOf, same, isNumber}
+use Rattle.text.specs.Texts.{decimal, valueOf, same, isNumber, joined}
 use Rattle.text.proofs.Laws.Fields.{same-whole, number-whole, decimal-whole, value-decimal}
-use Rattle.text.proofs.Laws.Pieces.{joined, free, joined-parted, parted-whole, parted-piece, decimal-free}
+use Rattle.text.proofs.Laws.Pieces.{free, joined-parted, parted-whole, parted-piece, decimal-free}
 use Rattle.formula.specs.Tables.{nodeRecord}
 use Rattle.nodefile.specs.Files.{tab, mostNumber, fieldsOf, fieldValue, areNumbers, optionsWord, optionFields, optionLine}
 use Rattle.nodefile.specs.Files.{optionCount, nodeLimits, nodeLine, recordOf}

@@ -43,3 +43,9 @@ ahead false b (p ∷ ps) = (b ∷ p) ∷ ps
 unfoldable pub parted : ℕ → List ℕ → List (List ℕ)
 parted mark [] = [] ∷ []
 parted mark (b ∷ t) = ahead (eqb b mark) b (parted mark t)
+
+-- R19.5: pieces with a mark between every two
+abbrev pub joined : ℕ → List (List ℕ) → List ℕ
+joined mark [] = []
+joined mark (p ∷ []) = p
+joined mark (p ∷ q ∷ ps) = p ++ (mark ∷ joined mark (q ∷ ps))

@@ -39,7 +39,7 @@ module _ (t : List ℕ) (taken : ℕ) (marks s : List ℕ) (cs ls : List (List �
   abbrev output : List Clause
   output = outputOf u ns
 
-  right : RightSet ns s
+  pub right : RightSet ns s
   right = right-set ns s 0 0 (p .settled .set)
 
   pub unnamed : Unnamed taken s (replicate mostNodes 0)
@@ -51,10 +51,10 @@ module _ (t : List ℕ) (taken : ℕ) (marks s : List ℕ) (cs ls : List (List �
 
   -- with helpers
   module _ (helpers : List ℕ) (h : helpers ≡ helpersOf u (length s)) where
-    names : namesIn helpers ≡ nameOf u
+    pub names : namesIn helpers ≡ nameOf u
     names = names-are u ns helpers (h ∙ ap (helpersOf u) (right .size)) (right .size)
 
-    writable : Writable t cs ls helpers
+    pub writable : Writable t cs ls helpers
     writable = record {
       options = p .settled .convertible .options;
       right = p .settled .convertible .right;
@@ -85,7 +85,7 @@ module _ (t : List ℕ) (taken : ℕ) (marks s : List ℕ) (cs ls : List (List �
 
   -- the totals of the output, read at their ceilings, decide
   module _ (sum : Size) (whole : sum ≡ totals (renaming 0 s) ns) (before : List ℕ) where
-    sum-is : sum ≡ shown (sizeOf output)
+    pub sum-is : sum ≡ shown (sizeOf output)
     sum-is = whole ∙ sym (totals-options u 0 ns) ∙ totals-output u ns
 
     pub fits-as-output : (a : Answer) → a ≡ fitted sum (length before) → a ≡ fitted (sizeOf output) (length before)

@@ -19,7 +19,7 @@ use Rattle.marks.specs.Sets.{renamed, operator, reached, mayRename, byteRight, 
 use Rattle.marks.specs.declared.mark.Halves.{Halves}
 use Rattle.formula.specs.declared.node.Node.{Node}
 use Rattle.marks.proofs.Laws.Sets.{RightSet, right-set}
-use Rattle.clausal.specs.Inner.Places.{contentsOf}
+use Rattle.clausal.specs.Places.{contentsOf}
 use Rattle.clausal.specs.Clauses.{clauses, joinAll, Literal, Clause, Renaming, helperOf, nameOf, rowOf}
 use Rattle.clausal.specs.Output.{Part, rootPart, downPart, upPart, definition, definitions, partsOf, outputOf}
 use Rattle.clausal.proofs.Places.{output-contents}
@@ -54,7 +54,7 @@ contents-append (p ∷ ps) qs =
 
 module _ (u : Renaming) (ns : List Node) where
   -- the root's clauses stand alone
-  root-written : renamed (u .set) (length ns - 1) ≡ false → partOf (nameOf u) ns (length ns - 1) true ≡ rootPart clauses u ns .content
+  pub root-written : renamed (u .set) (length ns - 1) ≡ false → partOf (nameOf u) ns (length ns - 1) true ≡ rootPart clauses u ns .content
   root-written e =
       ap (λ (h : ℕ). map (around h true) (ownList (nameOf u) ns (length ns - 1) true)) (name-plain u (length ns - 1) e)
       ∙ alone (ownList (nameOf u) ns (length ns - 1) true)
@@ -64,14 +64,14 @@ module _ (u : Renaming) (ns : List Node) where
     helped : (sign : Bool) → partOf (nameOf u) ns i sign ≡ map (around (helperOf u i) sign) (ownList (nameOf u) ns i sign)
     helped sign = ap (λ (h : ℕ). map (around h sign) (ownList (nameOf u) ns i sign)) (name-renamed u i e)
 
-    down-written : partOf (nameOf u) ns i true ≡ downPart clauses u ns i .content
+    pub down-written : partOf (nameOf u) ns i true ≡ downPart clauses u ns i .content
     down-written =
         helped true
         ∙ ap (λ (b : Bool). map (λ c. cond b [] (literal false (helperOf u i) ∷ []) ++ (c ++ [])) (ownList (nameOf u) ns i true))
         (helper-some u i)
         ∙ down-join (literal false (helperOf u i)) (ownList (nameOf u) ns i true)
 
-    up-written : partOf (nameOf u) ns i false ≡ upPart clauses u ns i .content
+    pub up-written : partOf (nameOf u) ns i false ≡ upPart clauses u ns i .content
     up-written =
         helped false
         ∙ ap (λ (b : Bool). map (λ c. c ++ cond b [] (literal true (helperOf u i) ∷ [])) (ownList (nameOf u) ns i false)) (helper-some u i)

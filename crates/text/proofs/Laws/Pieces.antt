@@ -12,7 +12,7 @@ use lib.Seq.{drop-cons, drop-drop, take-all}
 use borrow.Author.Tests.{leb-true, leb-false, le-leb, lt-leb, eq-eqb, ne-eqb, eqb-true, not-true}
 use Rattle.laws.specs.Lists.{Every, none, more}
 use Rattle.laws.proofs.Choices.{both}
-use Rattle.text.specs.Texts.{decimal, valueOf, isNumber, ahead, parted}
+use Rattle.text.specs.Texts.{decimal, valueOf, isNumber, ahead, parted, joined}
 use Rattle.text.specs.Inner.Numbers.{isDigit, numberOf}
 use Rattle.text.specs.Inner.Pieces.{spot, MarkAt, pieceAt, fieldAt}
 use Rattle.text.specs.declared.number.Number.{Number}
@@ -197,12 +197,6 @@ module _ (mark most : ℕ) (t : List ℕ) (at : ℕ) where
   -- the same of a field that was found, and turned out to be g
   pub field-told : {f g : Field} → f ≡ fieldAt mark most t at → f ≡ g → FieldFound g
   field-told e h = subst FieldFound (sym e ∙ h) field-of
-
--- pieces with a mark between every two
-abbrev pub joined : ℕ → List (List ℕ) → List ℕ
-joined mark [] = []
-joined mark (p ∷ []) = p
-joined mark (p ∷ q ∷ ps) = p ++ (mark ∷ joined mark (q ∷ ps))
 
 module _ (mark : ℕ) where
   -- no byte is the mark
