@@ -9,7 +9,7 @@ use lib.Dec.{eqb, ltb}
 use lib.ListN.{length, length-append}
 use borrow.Author.Tests.{lt-ltb, le-ltb, eq-eqb, ne-eqb, eqb-true, eqb-false, ltb-true, ltb-false}
 use Rattle.text.specs.Texts.{digits, decimal}
-use Rattle.text.proofs.Laws.Decimals.{length-decimal-le}
+use Rattle.text.proofs.Laws.Decimals.{width-least}
 use Rattle.clausal.specs.Clauses.{Clause}
 use Rattle.clausebytes.specs.Words.{literalOf, allWithin}
 use Rattle.clausebytes.proofs.Laws.Stand.{Stand, no-word, a-zero, a-literal, kept-within}
@@ -56,10 +56,6 @@ word-size w = go (eqb w 0) refl (ltb w (2 ^ 31)) refl
     go false e false f =
         let z : signOf w ≡ 1 = rw f in
         ap length (negated-text w (eqb-false w 0 e) (ltb-false w (2 ^ 31) f)) ∙ omega (arith, behind, z)
-
--- a number of 32 bits has ten digits at most, so twelve bytes a word are enough
-pub width-least : (n : ℕ) → n < 2 ^ 32 → length (decimal n) ≤ 10
-width-least n h = length-decimal-le 9 n (omega arith)
 
 magnitude-small : (w : ℕ) → w < 2 ^ 32 → literalOf w .variable < 2 ^ 32
 magnitude-small w h = go (ltb w (2 ^ 31)) refl

@@ -2,7 +2,8 @@
 use Prim.Native.Nat.{_≤_}
 use native.Mathlib.Omega.{arith}
 use borrow.Author.Needs.{needs}
-use Rattle.dimacs.proofs.Laws.Written.{width-least, length-header}
+use Rattle.text.proofs.Laws.Decimals.{width-least}
+use Rattle.dimacs.proofs.Laws.Written.{length-header}
 use Rattle.dimacs.proofs.size.Statement.{statement}
 use Rattle.dimacs.proofs.size.Tie as tie
 

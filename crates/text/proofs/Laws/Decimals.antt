@@ -102,6 +102,10 @@ length-decimal-le (suc k) n h = go (ltb n 10) refl (length-decimal-le k (n / 10)
         let g : n / 10 < 10 ^ suc k = omega (arith, pow-suc 10 (suc k)) in
         omega (arith, ih g, length-last n (ltb-false n 10 e))
 
+-- a number of 32 bits has ten digits at most
+pub width-least : (n : ℕ) → n < 2 ^ 32 → length (decimal n) ≤ 10
+width-least n h = length-decimal-le 9 n (omega arith)
+
 -- A loop over the powers of ten: the i-th is looked at next, and `digits` is the number of digits as far as it is known.
 pub record Widening (n i power digits : ℕ) : Type 0 where
   pub is-power : power ≡ 10 ^ i

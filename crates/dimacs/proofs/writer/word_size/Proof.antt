@@ -6,7 +6,8 @@ use borrow.Author.Needs.{needs}
 use lib.ListN.{length}
 use Rattle.text.specs.Texts.{decimal}
 use Rattle.clausebytes.specs.Words.{literalOf}
-use Rattle.dimacs.proofs.Laws.Written.{width-least, sign-is, word-size}
+use Rattle.text.proofs.Laws.Decimals.{width-least}
+use Rattle.dimacs.proofs.Laws.Written.{sign-is, word-size}
 use Rattle.dimacs.proofs.writer.word_size.Statement.{statement}
 use Rattle.dimacs.proofs.writer.word_size.Tie as tie
 

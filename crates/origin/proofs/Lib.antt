@@ -1,0 +1,2 @@
+-- Laws and theorems of where clauses come from.
+pub mod Laws

@@ -1,0 +1,3 @@
+-- Where clauses come from.
+pub mod Origins
+pub mod Inner

@@ -1,0 +1,3 @@
+// Where each clause of an output comes from: its line, by the names of options and helpers.
+mod part;
+mod pen;
