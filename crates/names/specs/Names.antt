@@ -1,7 +1,7 @@
 -- R19.7 to R19.11: lists of names, which of them are right, and the name of an option or of a helper.
 -- Assumes nothing: these are definitions.
 use mathlib.Core.Bool.{Bool, true, false, cond, not, _&&_, _||_}
-use mathlib.Core.List.{List, [], _∷_}
+use mathlib.Core.List.{List, [], _∷_, _++_}
 use Prim.Native.Nat.{ℕ, zero, suc, _-_}
 use lib.Dec.{eqb, leb}
 use lib.ListN.{getD}
@@ -36,6 +36,11 @@ namesAre (suc n) (p ∷ ps) = isName p && namesAre n ps
 -- R19.7, R19.9: whether a list has exactly n names, each ended by a newline
 abbrev pub rightNames : ℕ → List ℕ → Bool
 rightNames n list = namesAre n (parted newline list)
+
+-- R19.7: names as a list has them, each ended by a newline
+unfoldable pub listed : List (List ℕ) → List ℕ
+listed [] = []
+listed (p ∷ ps) = p ++ (newline ∷ listed ps)
 
 -- R19.10: name j of a list, from 0: the piece between newline j - 1 and newline j
 abbrev pub nameIn : List ℕ → ℕ → List ℕ

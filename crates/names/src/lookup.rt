@@ -45,9 +45,9 @@ pub fn lookup<'a>(
     v: usize,
     n: usize,
 ) -> &'a [u8]
-    requires { ⌜ Findable (now options) (now helpers) (now option_notes) (now helper_notes) v n ⌝ }
-    ensures { λ r. ⌜ Looked (now (options .entry)) (now (helpers .entry)) (now (option_notes .entry)) (now (helper_notes .entry)) v n
-        (now r) (now (option_notes .exit)) (now (helper_notes .exit)) ⌝ }
+    requires { ⌜ Findable (now options) (now helpers) (now «option_notes») (now «helper_notes») v n ⌝ }
+    ensures { λ r. ⌜ Looked (now (options .entry)) (now (helpers .entry)) (now («option_notes» .entry)) (now («helper_notes» .entry)) v n
+        (now r) (now («option_notes» .exit)) (now («helper_notes» .exit)) ⌝ }
 {
     if n <= v {
         return name_in(options, option_notes, n - 1);

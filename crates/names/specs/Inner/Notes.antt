@@ -3,7 +3,7 @@
 use mathlib.Core.Bool.{true, cond}
 use mathlib.Core.List.{List, [], _∷_}
 use mathlib.Core.Path.{_≡_}
-use Prim.Native.Nat.{ℕ, zero, suc, _+_, _-_, _*_, _/_, _<_, _≤_}
+use Prim.Native.Nat.{ℕ, _+_, _-_, _*_, _/_, _<_, _≤_}
 use lib.Dec.{leb}
 use lib.ListN.{length, getD, set, take, replicate}
 use Rattle.laws.specs.Lists.{upTo}
@@ -57,10 +57,10 @@ pub record Within (list notes : List ℕ) (j : ℕ) : Type 0 where
   pub below : j < count
 
 -- both lists with their notes, and a number that has a name in one of them
-pub record Findable (options helpers optionNotes helperNotes : List ℕ) (v n : ℕ) : Type 0 where
+pub record Findable (optionList helperList optionNotes helperNotes : List ℕ) (v n : ℕ) : Type 0 where
   pub count : ℕ
-  pub options : Noted options v optionNotes
-  pub helpers : Noted helpers count helperNotes
+  pub options : Noted optionList v optionNotes
+  pub helpers : Noted helperList count helperNotes
   pub some : 0 < n
   pub most : n ≤ v + count
 
@@ -72,7 +72,8 @@ abbrev pub helpersFound : List ℕ → List ℕ → ℕ → ℕ → List ℕ
 helpersFound list notes v n = cond (leb n v) notes (foundIn list notes (n - v - 1))
 
 -- the name that was looked up, and both arrays of notes afterwards
-pub record Looked (options helpers optionNotes helperNotes : List ℕ) (v n : ℕ) (name optionsAfter helpersAfter : List ℕ) : Type 0 where
-  pub name : name ≡ nameOf options helpers v n
-  pub options : optionsAfter ≡ optionsFound options optionNotes v n
-  pub helpers : helpersAfter ≡ helpersFound helpers helperNotes v n
+pub record Looked (optionList helperList optionNotes helperNotes : List ℕ) (v n : ℕ)
+    (found optionsAfter helpersAfter : List ℕ) : Type 0 where
+  pub name : found ≡ nameOf optionList helperList v n
+  pub options : optionsAfter ≡ optionsFound optionList optionNotes v n
+  pub helpers : helpersAfter ≡ helpersFound helperList helperNotes v n
