@@ -1,2 +1,0 @@
--- A clause, literal by literal.
-pub mod Inner

@@ -1,2 +1,0 @@
-// The literals of a clause, one after the other.
-pub mod literal;
