@@ -41,6 +41,38 @@
  *   A literal is a 32-bit little-endian two's complement number: a variable, or minus a variable. A
  *   zero closes each clause. So clauses take four bytes for each literal and four for each clause.
  *
+ * Origins of clauses
+ *
+ *   Every clause of a conversion has one origin. That is the root, or a renamed node and one half of the
+ *   clauses that define its helper. A line of text tells it:
+ *
+ *     field    what it is
+ *     1        the clause's number in the conversion, from 0
+ *     2        the origin: the number of the root or of the renamed node
+ *     3        the helper of the renamed node, or 0 for the root
+ *     4        `root`; `down` for the half that says that the helper implies its node; `up` for the half
+ *              that says the reverse
+ *     5        the clause's number in this part, from 0. It begins anew in each half
+ *     6 ..     its literals in the clause's order: each is the variable's name, with `!` before a negated one
+ *
+ *   A tab stands between two fields, and a newline ends the line. The line of an empty clause ends after
+ *   field 5. No two clauses have the same fields 2 to 5.
+ *
+ *   The caller lends two lists of names: one has V names, the other has one for each renamed node. A newline
+ *   stands behind each name, behind the last one too. A name has at least one byte, of any value but tab and
+ *   newline. Option s has name s of the first list. Helper V + j has name j of the second, so its names
+ *   are in rising node number. A list for no variable is empty.
+ *
+ *   With s1 equivalent s2 as node 2, the root node 2 equivalent node 2 as node 3, node 2 renamed, and the
+ *   names JPEG, HDR and E, the six lines are these, with spaces for tabs:
+ *
+ *     0 3 0 root 0 !E E
+ *     1 3 0 root 1 !E E
+ *     2 2 3 down 0 !E !JPEG HDR
+ *     3 2 3 down 1 !E !HDR JPEG
+ *     4 2 3 up 0 !JPEG !HDR E
+ *     5 2 3 up 1 JPEG HDR E
+ *
  * DIMACS text, as it is written
  *
  *   `p cnf VARIABLES CLAUSES` and a newline. Then a line for each clause: its literals in decimal, a
@@ -95,7 +127,7 @@ extern "C" {
 
 /*
  * What a call returns. The checks go in this order, as far as a call has them:
- * 11, 1, 2, the records, 4, 5, 6, 8, 9, 7. The place is 0 unless it is given here. A place over
+ * 11, 1, 2, the records, 4, 5, 6, 15, 16, 8, 9, 7. The place is 0 unless it is given here. A place over
  * 4,294,967,295 shows as that number.
  *
  * A wrong record is refused by 3, 12, 13 or 14, which are looked at in this order. The lowest node whose
@@ -149,7 +181,14 @@ enum simbolufa_number {
     /* A node's child is not below it: the child's number is the node's or a higher one. Place: the node. */
     SIMBOLUFA_REFUSED_CHILD = 13,
     /* A node's symbol is 0 or over V. Place: the node. */
-    SIMBOLUFA_REFUSED_SYMBOL = 14
+    SIMBOLUFA_REFUSED_SYMBOL = 14,
+    /* The conversion has no clause of the number that is asked for: they count from 0. Place: that number. */
+    SIMBOLUFA_REFUSED_CLAUSE_NUMBER = 15,
+    /*
+     * A list of names has too few names or too many, an empty name, a tab, or no newline behind its last
+     * name.
+     */
+    SIMBOLUFA_REFUSED_NAMES = 16
 };
 
 /* The length of the answer part. */
@@ -216,6 +255,35 @@ uint32_t simbolufa_convert(const uint8_t *table, size_t table_len, uint32_t opti
 uint32_t simbolufa_convert_after(const uint8_t *table, size_t table_len, uint32_t options, uint32_t taken,
                                  const uint8_t *set, size_t set_len, uint8_t *out, size_t out_len,
                                  uint8_t *answer, size_t answer_len);
+
+/*
+ * Tells where one clause of a conversion comes from. `options` is V, `set` has one byte a node, and `clause`
+ * is the clause's number in what simbolufa_convert gives for them, from 0. `option_names` has V names, and
+ * `helper_names` has one for each renamed node.
+ *
+ * Returns 0, 1, 2, 3, 12, 13, 14, 4, 5, 6, 15, 16, 7 or 11. On 0 the line is the first bytes of `line`, and
+ * the bytes after it are not changed. The values of the answer part are those of simbolufa_convert: the
+ * variables and the clauses. The line's length is not reported: the line ends with its only newline. Where the
+ * length is not known before, lend a longer buffer after 7. `origin_line` of simbolufa.hpp does so.
+ */
+uint32_t simbolufa_origin(const uint8_t *table, size_t table_len, uint32_t options, const uint8_t *set,
+                          size_t set_len, uint32_t clause, const uint8_t *option_names,
+                          size_t option_names_len, const uint8_t *helper_names, size_t helper_names_len,
+                          uint8_t *line, size_t line_len, uint8_t *answer, size_t answer_len);
+
+/*
+ * Tells where all clauses of a conversion come from: the lines of simbolufa_origin for clause 0, 1, 2 and so
+ * on, one after the other. It is one call, so it takes much less time than a call for each clause.
+ *
+ * Returns what simbolufa_origin returns, without 15; 7 where all lines together do not fit. On 0 the lines are
+ * the first bytes of `lines`, and the bytes after them are not changed. The values of the answer part are the
+ * variables and the clauses. There is one newline for each clause, so the lines end with the newline of that
+ * number. With no clause there is no byte. `origin_lines` of simbolufa.hpp makes room for them.
+ */
+uint32_t simbolufa_origins(const uint8_t *table, size_t table_len, uint32_t options, const uint8_t *set,
+                           size_t set_len, const uint8_t *option_names, size_t option_names_len,
+                           const uint8_t *helper_names, size_t helper_names_len, uint8_t *lines,
+                           size_t lines_len, uint8_t *answer, size_t answer_len);
 
 /*
  * Writes clause bytes as DIMACS text. `variables` is the variable count that the header declares.
@@ -290,6 +358,10 @@ static inline const char *simbolufa_sentence(uint32_t number)
         return "a line of the node file is wrong or missing, or the file is over 65,536 bytes";
     case SIMBOLUFA_REFUSED_ANSWER_LENGTH:
         return "the answer part is not 16 bytes";
+    case SIMBOLUFA_REFUSED_CLAUSE_NUMBER:
+        return "there is no clause of this number";
+    case SIMBOLUFA_REFUSED_NAMES:
+        return "a list of names has too few or too many, an empty name, a tab, or no newline at its end";
     default:
         return "there is no such number";
     }

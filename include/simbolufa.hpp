@@ -1,9 +1,10 @@
 /*
  * Simbolufa for C++17: the entries of simbolufa.h with views in place of pointers, and one answer.
  *
- * simbolufa.h says what each call does, what it refuses and how much stack it takes. Nothing here
- * allocates or throws, and only `together` keeps state. The answer part is on the stack of the call, so
- * refusal 11 does not occur, and it overlaps no buffer of the caller.
+ * simbolufa.h says what each call does, what it refuses and how much stack it takes. Only `origin_line` and
+ * `origin_lines` allocate: they make a text of the caller as long as it has to be. Nothing else here allocates
+ * or throws, and only `together` keeps state. The answer part is on the stack of the call, so refusal 11
+ * does not occur, and it overlaps no buffer of the caller.
  *
  * A guard from table to DIMACS text:
  *
@@ -21,6 +22,12 @@
  *       text.resize(simbolufa::text_bytes(clauses, told.first));
  *       told = simbolufa::write_dimacs(clauses, told.first, text);
  *   }
+ *
+ * Where its clauses come from, with the names of options and helpers, a newline behind each:
+ *
+ *   std::string lines;
+ *   if (told)
+ *       told = simbolufa::origin_lines(table, options, set, option_names, helper_names, lines);
  *
  * Guards that are solved together, such as those of a branch inside a branch, are converted by one object
  * of the class `together`. Then their clauses share the project's options and nothing else.
@@ -278,6 +285,84 @@ inline answer needed_bytes(bytes table, std::uint32_t options, bytes set, std::s
         return detail::refusal(SIMBOLUFA_REFUSED_LITERALS);
     needed = 4 * (static_cast<std::size_t>(totals.first) + totals.second);
     return totals;
+}
+
+/* Tells where clause `clause` comes from, in one line of text. Values: variables, clauses. */
+inline answer origin(bytes table, std::uint32_t options, bytes set, std::uint32_t clause, bytes option_names,
+                     bytes helper_names, room line) noexcept
+{
+    return detail::told([=](std::uint8_t *part, std::size_t length) {
+        simbolufa_origin(table.data, table.size, options, set.data, set.size, clause, option_names.data,
+                         option_names.size, helper_names.data, helper_names.size, line.data, line.size, part, length);
+    });
+}
+
+/* Tells where all clauses come from, in a line for each. Values: variables, clauses. */
+inline answer origins(bytes table, std::uint32_t options, bytes set, bytes option_names, bytes helper_names,
+                      room lines) noexcept
+{
+    return detail::told([=](std::uint8_t *part, std::size_t length) {
+        simbolufa_origins(table.data, table.size, options, set.data, set.size, option_names.data, option_names.size,
+                          helper_names.data, helper_names.size, lines.data, lines.size, part, length);
+    });
+}
+
+namespace detail {
+
+// How many bytes the first lines of a text have. It has so many lines, or more.
+constexpr std::size_t length_of_lines(bytes text, std::uint32_t lines) noexcept
+{
+    std::size_t length = 0;
+    for (; lines > 0 && length < text.size; length++)
+        if (text.data[length] == '\n')
+            lines--;
+    return length;
+}
+
+// Makes a call with a text of so many bytes, and again with twice as many as long as there is too little room.
+template <class Text, class Call> answer told_with_room(Text &text, std::size_t length, Call call)
+{
+    text.resize(length);
+    answer told = call(room(text));
+    while (told.number == SIMBOLUFA_REFUSED_ROOM) {
+        text.resize(2 * text.size());
+        told = call(room(text));
+    }
+    return told;
+}
+
+// The least room that is tried.
+constexpr std::size_t first_room = 256;
+
+} // namespace detail
+
+/*
+ * The same as origin, into a std::string or another container of bytes that can be resized. What it held before is
+ * gone: after the call it is exactly the line, or empty where the call refuses. Refusal 7 does not occur.
+ */
+template <class Text, class = detail::writable<Text>>
+answer origin_line(bytes table, std::uint32_t options, bytes set, std::uint32_t clause, bytes option_names,
+                   bytes helper_names, Text &line)
+{
+    const answer told = detail::told_with_room(line, detail::first_room, [&](room lent) {
+        return origin(table, options, set, clause, option_names, helper_names, lent);
+    });
+    line.resize(told ? detail::length_of_lines(line, 1) : 0);
+    return told;
+}
+
+/* The same as origins, in this way. */
+template <class Text, class = detail::writable<Text>>
+answer origin_lines(bytes table, std::uint32_t options, bytes set, bytes option_names, bytes helper_names, Text &lines)
+{
+    // Names may be of any length. This is enough where they have 30 bytes.
+    std::size_t needed = 0;
+    static_cast<void>(needed_bytes(table, options, set, needed));
+    const answer told = detail::told_with_room(lines, detail::first_room + 8 * needed, [&](room lent) {
+        return origins(table, options, set, option_names, helper_names, lent);
+    });
+    lines.resize(told ? detail::length_of_lines(lines, told.second) : 0);
+    return told;
 }
 
 /*

@@ -289,6 +289,42 @@ uint32_t convert_after(Request &request)
 }
 #endif
 
+#ifdef SIMBOLUFA_HAS_ORIGIN
+uint32_t origin(Request &request)
+{
+    uint32_t options = request.number();
+    uint32_t clause = request.number();
+    Lent &table = request.input();
+    Lent &set = request.input();
+    Lent &option_names = request.input();
+    Lent &helper_names = request.input();
+    Lent &line = request.output();
+    Lent &answer = request.answer_part();
+    request.end();
+    return simbolufa_origin(table.data(), table.size(), options, set.data(), set.size(), clause,
+                            option_names.data(), option_names.size(), helper_names.data(),
+                            helper_names.size(), line.data(), line.size(), answer.data(), answer.size());
+}
+#endif
+
+#ifdef SIMBOLUFA_HAS_ORIGINS
+uint32_t origins(Request &request)
+{
+    uint32_t options = request.number();
+    Lent &table = request.input();
+    Lent &set = request.input();
+    Lent &option_names = request.input();
+    Lent &helper_names = request.input();
+    Lent &lines = request.output();
+    Lent &answer = request.answer_part();
+    request.end();
+    return simbolufa_origins(table.data(), table.size(), options, set.data(), set.size(),
+                             option_names.data(), option_names.size(), helper_names.data(),
+                             helper_names.size(), lines.data(), lines.size(), answer.data(),
+                             answer.size());
+}
+#endif
+
 #ifdef SIMBOLUFA_HAS_WRITE_DIMACS
 uint32_t write_dimacs(Request &request)
 {
@@ -327,6 +363,12 @@ const std::map<std::string, uint32_t (*)(Request &)> operations = {
 #endif
 #ifdef SIMBOLUFA_HAS_CONVERT_AFTER
     {"convert_after", convert_after},
+#endif
+#ifdef SIMBOLUFA_HAS_ORIGIN
+    {"origin", origin},
+#endif
+#ifdef SIMBOLUFA_HAS_ORIGINS
+    {"origins", origins},
 #endif
 #ifdef SIMBOLUFA_HAS_WRITE_DIMACS
     {"write_dimacs", write_dimacs},

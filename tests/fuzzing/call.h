@@ -12,6 +12,8 @@ namespace fuzzing {
 
 // Buffers over this length are shown by their hash.
 constexpr size_t longest_shown = 4096;
+// The most buffers that a call lends.
+constexpr size_t most_buffers = 6;
 
 // What a call returned, and the values of its answer part where it has one.
 struct Said {
@@ -110,7 +112,7 @@ public:
         Said said{number_at(bytes, 0), number_at(bytes, 4), number_at(bytes, 8), number_at(bytes, 12)};
         must(said.number == result, "the answer part has another number than the call returned");
         must(result == 0 || (said.first == 0 && said.second == 0), "a refusal has a value");
-        bool has_place = is_for_a_record(result) || result == 4 || result == 8;
+        bool has_place = is_for_a_record(result) || result == 4 || result == 8 || result == 15;
         must(has_place || said.place == 0, "a place where there is none");
         return said;
     }
@@ -132,7 +134,7 @@ public:
 private:
     Lent &lend(const Bytes &bytes)
     {
-        static Arena arenas[4];
+        static Arena arenas[most_buffers];
         size_t at = buffers.size();
         buffers.emplace_back(arenas[at], bytes, from.null(at), from.at_end(at));
         return buffers.back();
@@ -155,7 +157,7 @@ private:
     static std::vector<Lent> reserved()
     {
         std::vector<Lent> made;
-        made.reserve(4);
+        made.reserve(most_buffers);
         return made;
     }
 };

@@ -18,11 +18,15 @@ public:
     bool tames_first() const { return head[1] & 1; }
     bool tames_second() const { return head[1] & 2; }
     bool has_exact_room() const { return !(head[1] & 4); }
-    bool at_end(size_t buffer) const { return head[15] >> buffer & 1; }
-    bool null(size_t buffer) const { return head[15] >> (4 + buffer) & 1; }
+    bool tames_option_names() const { return !(head[1] & 32); }
+    bool tames_helper_names() const { return !(head[1] & 64); }
+    // A call may lend more than four buffers. The fifth lies as the first does, and so on.
+    bool at_end(size_t buffer) const { return head[15] >> buffer % 4 & 1; }
+    bool null(size_t buffer) const { return head[15] >> (4 + buffer % 4) & 1; }
     // Small, unless a flag asks for any.
     uint32_t number() const { return head[1] & 8 ? word(2) : word(2) % 32; }
     uint32_t allowance() const { return head[1] & 16 ? word(6) : word(6) % 8; }
+    uint32_t clause() const { return allowance(); }
     // A little above the options, unless the same flag asks for any.
     uint32_t taken() const { return head[1] & 16 ? word(6) : number() + word(6) % 64; }
 

@@ -18,6 +18,8 @@ constexpr uint32_t most_clauses = 65534, most_literals = 999999, most_options = 
 // Conversions of more steps are asked with a short buffer, and longer tables are not asked of the reference.
 constexpr uint64_t most_steps = 20000000;
 constexpr size_t longest_asked_table = 512, longest_asked_output = 100000;
+// Origins whose lines may be longer than this are asked with a short buffer.
+constexpr size_t longest_lines = size_t(4) << 20;
 
 // A formula as it is lent.
 struct Formula {
@@ -181,6 +183,223 @@ Bytes convert(const Case &from, const Formula &formula, Taken after, size_t answ
     return clauses;
 }
 
+// A formula with the two lists of names, as they are lent.
+struct Named {
+    Formula formula;
+    Bytes option_names, helper_names;
+
+    size_t helpers() const { return std::count(formula.set.begin(), formula.set.end(), 1); }
+};
+
+// What stands behind the set are the lists. Its last two bytes say how long the second is.
+Named named_of(const Case &from)
+{
+    Formula formula = formula_of(from);
+    Bytes rest = from.second();
+    size_t set = std::min(formula.nodes(), rest.size());
+    formula.set.resize(std::min(formula.nodes(), formula.set.size()));
+    rest.erase(rest.begin(), rest.begin() + set);
+    size_t second = 0;
+    if (rest.size() >= 2) {
+        second = rest[rest.size() - 2] | rest[rest.size() - 1] << 8;
+        rest.resize(rest.size() - 2);
+    }
+    size_t split = rest.size() - std::min(second, rest.size());
+    Named named{formula, Bytes(rest.begin(), rest.begin() + split), Bytes(rest.begin() + split, rest.end())};
+    if (from.tames_option_names())
+        named.option_names = tamed_names(named.option_names, std::min(formula.options, most_options));
+    if (from.tames_helper_names())
+        named.helper_names = tamed_names(named.helper_names, named.helpers());
+    return named;
+}
+
+using Texts = std::vector<std::string>;
+
+// Adds the names of a list to others. It tells whether the list is right for so many.
+bool add_names(const Bytes &list, size_t count, Texts &names)
+{
+    std::string name;
+    for (uint8_t byte : list) {
+        if (byte == '\t' || (byte == '\n' && (name.empty() || count == 0)))
+            return false;
+        if (byte != '\n') {
+            name += static_cast<char>(byte);
+            continue;
+        }
+        names.push_back(name);
+        name.clear();
+        count--;
+    }
+    return name.empty() && count == 0;
+}
+
+// Which clause is asked for. Where none is said it is all of them.
+using Wanted = std::optional<uint32_t>;
+
+uint32_t call_origin(const Named &named, Wanted clause, const Lent &table, const Lent &set, const Lent &option_names,
+                     const Lent &helper_names, const Lent &out, const Lent &answer)
+{
+    uint32_t options = named.formula.options;
+    if (clause)
+        return simbolufa_origin(table.data(), table.size(), options, set.data(), set.size(), *clause,
+                                option_names.data(), option_names.size(), helper_names.data(), helper_names.size(),
+                                out.data(), out.size(), answer.data(), answer.size());
+    return simbolufa_origins(table.data(), table.size(), options, set.data(), set.size(), option_names.data(),
+                             option_names.size(), helper_names.data(), helper_names.size(), out.data(), out.size(),
+                             answer.data(), answer.size());
+}
+
+// The line of a clause, or the lines of all, of a call that has this room, which is enough.
+std::string text_with_room(const Named &named, Wanted clause, size_t room)
+{
+    const auto &[formula, option_names, helper_names] = named;
+    Bytes out(room);
+    uint8_t part[SIMBOLUFA_ANSWER_LENGTH];
+    uint32_t result =
+        clause ? simbolufa_origin(formula.table.data(), formula.table.size(), formula.options, formula.set.data(),
+                                  formula.set.size(), *clause, option_names.data(), option_names.size(),
+                                  helper_names.data(), helper_names.size(), out.data(), out.size(), part, sizeof part)
+               : simbolufa_origins(formula.table.data(), formula.table.size(), formula.options, formula.set.data(),
+                                   formula.set.size(), option_names.data(), option_names.size(), helper_names.data(),
+                                   helper_names.size(), out.data(), out.size(), part, sizeof part);
+    must(result == 0, "origin: a refusal with room enough");
+    size_t lines = clause ? 1 : simbolufa_read_answer(part).second, length = 0;
+    for (; lines > 0; length++) {
+        must(length < out.size(), "origin: too few lines");
+        lines -= out[length] == '\n';
+    }
+    return std::string(out.begin(), out.begin() + length);
+}
+
+// A part of the output as its lines tell it.
+struct Part {
+    size_t node;
+    uint32_t helper;
+    const char *word;
+};
+
+std::vector<Part> parts_of(const Formula &formula)
+{
+    std::vector<Part> parts = {{formula.nodes() - 1, 0, "root"}};
+    uint32_t helper = formula.options;
+    for (size_t node = 0; node < formula.nodes(); node++)
+        if (formula.set[node] == 1) {
+            parts.push_back({node, ++helper, "down"});
+            parts.push_back({node, helper, "up"});
+        }
+    return parts;
+}
+
+// Whether a clause of so many literals may stand in a part: a half has its helper at its own end.
+bool may_stand_in(const Part &part, const Bytes &clauses, size_t start, size_t end)
+{
+    if (part.helper == 0)
+        return true;
+    if (start == end)
+        return false;
+    return part.word[0] == 'd' ? number_at(clauses, start) == 0 - part.helper
+                               : number_at(clauses, end - 4) == part.helper;
+}
+
+// Holds all lines to the clauses of a conversion: each has the literals of its clause, parts come in their order, and
+// numbers in a part count from 0.
+void hold_lines(const Named &named, const Texts &names, const Said &totals, const std::string &text)
+{
+    const Formula &formula = named.formula;
+    Bytes clauses(4 * (size_t(totals.first) + totals.second));
+    uint8_t answer[SIMBOLUFA_ANSWER_LENGTH];
+    uint32_t result = simbolufa_convert(formula.table.data(), formula.table.size(), formula.options, formula.set.data(),
+                                        formula.set.size(), clauses.data(), clauses.size(), answer, sizeof answer);
+    must(result == 0, "origins: clauses that convert does not give");
+    const std::vector<Part> parts = parts_of(formula);
+    size_t at = 0, word = 0, part = 0, number = 0;
+    for (size_t k = 0; k < totals.first; k++) {
+        std::string literals;
+        size_t start = word;
+        for (; number_at(clauses, word) != 0; word += 4) {
+            int64_t literal = static_cast<int32_t>(number_at(clauses, word));
+            literals += literal < 0 ? "\t!" : "\t";
+            literals += names[std::abs(literal) - 1];
+        }
+        size_t end = std::min(text.find('\n', at), text.size());
+        const std::string line = text.substr(at, end - at);
+        // The next clause of the part, or the first of a later one.
+        for (;; part++, number = 0) {
+            must(part < parts.size(), "origins: a line that is not the clause's");
+            const Part &now = parts[part];
+            std::string front = std::to_string(k) + "\t" + std::to_string(now.node) + "\t" + std::to_string(now.helper) +
+                                "\t" + now.word + "\t" + std::to_string(number);
+            if (line == front + literals && may_stand_in(now, clauses, start, word))
+                break;
+        }
+        number++;
+        word += 4;
+        at = end + 1;
+    }
+    must(at == text.size(), "origins: a line too many");
+}
+
+// Asks where a clause comes from, or where all do.
+void origin(const Case &from, const Named &named, Wanted clause, size_t answer_length)
+{
+    const Formula &formula = named.formula;
+    Said totals = measure(from, formula, SIMBOLUFA_ANSWER_LENGTH);
+    Texts names;
+    bool has_names = add_names(named.option_names, formula.options, names) &&
+                     add_names(named.helper_names, named.helpers(), names);
+    uint32_t expected = totals.number != 0                          ? totals.number
+                        : totals.first == clause_ceiling            ? 5
+                        : totals.second == literal_ceiling          ? 6
+                        : clause && *clause >= totals.first         ? 15
+                        : !has_names                                ? 16
+                                                                    : 0;
+    size_t longest = 0;
+    for (const std::string &name : names)
+        longest = std::max(longest, name.size());
+    // A line has at most 28 bytes beside its literals.
+    size_t most = 28 * size_t(totals.first) + (2 + longest) * size_t(totals.second);
+    bool is_long = most > longest_lines || (uint64_t(totals.first) + totals.second) * formula.nodes() > most_steps;
+    std::string text;
+    if (expected == 0 && !is_long)
+        text = text_with_room(named, clause, most);
+    Call call(from, clause ? "origin" : "origins");
+    call.number(formula.options);
+    if (clause)
+        call.number(*clause);
+    Lent &table = call.input(formula.table);
+    Lent &set = call.input(formula.set);
+    Lent &option_names = call.input(named.option_names);
+    Lent &helper_names = call.input(named.helper_names);
+    // No line has less than 13 bytes.
+    Lent &out = call.output(is_long ? 12 : from.room(expected == 0 ? text.size() : 64));
+    Lent &answer = call.answer_part(answer_length);
+    uint32_t result = call_origin(named, clause, table, set, option_names, helper_names, out, answer);
+    Said said = call.made(result, text.size());
+    if (expected == 0 && (is_long || out.size() < text.size()))
+        expected = 7;
+    if (answer.size() != SIMBOLUFA_ANSWER_LENGTH)
+        expected = 11;
+    must(result == expected, "origin: another number than the totals, the names and the room say");
+    must(result != totals.number || said.place == totals.place, "origin: another place than measure's");
+    must(result != 15 || said.place == *clause, "origin: another place than the clause's number");
+    size_t lists = named.option_names.size() + named.helper_names.size();
+    if (formula.is_asked() && !is_long && out.size() + lists <= longest_asked_output)
+        call.ask_reference(result);
+    if (result != 0)
+        return;
+    must(said.first == formula.options + named.helpers(), "origin: other variables");
+    must(said.second == totals.first, "origin: another clause total");
+    must(std::equal(text.begin(), text.end(), out.data()), "origin: the text hangs on the room");
+    if (!clause)
+        return hold_lines(named, names, totals, text);
+    // The line is one of all lines.
+    std::string all = text_with_room(named, {}, most);
+    size_t start = 0;
+    for (uint32_t k = 0; k < *clause; k++)
+        start = all.find('\n', start) + 1;
+    must(all.compare(start, text.size(), text) == 0, "origin: another line than among all");
+}
+
 // The text of clause bytes as the rules write it, or none where they are refused.
 bool text_of(const Bytes &clauses, uint32_t variables, std::string &text)
 {
@@ -284,7 +503,7 @@ void write_any(const Case &from)
     write_dimacs(from, clauses, from.number(), from.answer_length());
 }
 
-// Chooses, converts under the chosen set, converts once more after that, and writes the clauses.
+// Chooses, converts under the chosen set, converts once more after that, writes the clauses, and asks where they come from.
 void whole(const Case &from)
 {
     Formula formula = formula_of(from);
@@ -296,6 +515,9 @@ void whole(const Case &from)
         convert(from, formula, variables, SIMBOLUFA_ANSWER_LENGTH, more);
     if (!clauses.empty() && clauses.size() <= longest_asked_output)
         write_dimacs(from, clauses, variables, SIMBOLUFA_ANSWER_LENGTH);
+    Named named{formula, tamed_names({}, std::min(formula.options, most_options)), {}};
+    named.helper_names = tamed_names({}, named.helpers());
+    origin(from, named, {}, SIMBOLUFA_ANSWER_LENGTH);
 }
 
 } // namespace
@@ -304,7 +526,7 @@ extern "C" int LLVMFuzzerTestOneInput(const uint8_t *data, size_t size)
 {
     Case from(data, size);
     uint32_t variables = 0;
-    switch (from.entry() % 8) {
+    switch (from.entry() % 10) {
     case 0:
         check(from, formula_of(from));
         break;
@@ -327,6 +549,12 @@ extern "C" int LLVMFuzzerTestOneInput(const uint8_t *data, size_t size)
         break;
     case 6:
         convert(from, formula_of(from), from.taken(), from.answer_length(), variables);
+        break;
+    case 7:
+        origin(from, named_of(from), from.clause(), from.answer_length());
+        break;
+    case 8:
+        origin(from, named_of(from), {}, from.answer_length());
         break;
     default:
         whole(from);

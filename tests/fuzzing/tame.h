@@ -1,4 +1,4 @@
-// Right tables, sets and clause bytes, made from any bytes, so that cases get past the checks.
+// Right tables, sets, clause bytes and lists of names, made from any bytes, so that cases get past the checks.
 #pragma once
 
 #include "call.h"
@@ -65,6 +65,24 @@ inline Bytes tamed_clauses(Bytes bytes, uint32_t variables)
             bytes[at + i] = static_cast<uint8_t>(word >> (8 * i));
     }
     return bytes;
+}
+
+// A right list of so many names, made from any bytes: what stands between newlines, or a number where that is nothing.
+inline Bytes tamed_names(const Bytes &bytes, size_t count)
+{
+    Bytes names;
+    size_t at = 0;
+    for (size_t number = 0; number < count; number++) {
+        size_t start = names.size();
+        for (; at < bytes.size() && bytes[at] != '\n'; at++)
+            names.push_back(bytes[at] == '\t' ? ' ' : bytes[at]);
+        at++;
+        if (names.size() == start)
+            for (char digit : std::to_string(number))
+                names.push_back(static_cast<uint8_t>(digit));
+        names.push_back('\n');
+    }
+    return names;
 }
 
 } // namespace fuzzing

@@ -8,9 +8,9 @@ use reference::fast_choose::fast_choose;
 use reference::table;
 
 /// Longer conversions are asked for seldom, so that most requests are quick.
-const LONG: u64 = 20_000;
+pub const LONG: u64 = 20_000;
 /// The largest option count, and the most that may be taken.
-const MOST_OPTIONS: u32 = 32_000;
+pub const MOST_OPTIONS: u32 = 32_000;
 
 pub fn formula_fields(random: &mut Random, formula: &Formula) -> String {
     format!("{} {}", formula.options, input(random, &formula.table))

@@ -6,6 +6,7 @@ use crate::dimacs_text;
 use crate::field::{answer_part, input, input_in_parts, output, room};
 use crate::formula::{any_formula, right_formula, small_formula, Formula};
 use crate::node_file::node_file;
+use crate::origin;
 use crate::random::Random;
 use crate::set::set;
 use crate::table::MOST_NODES;
@@ -30,6 +31,8 @@ pub fn request(
         "choose" => choose(random),
         "convert" => conversion::convert(random),
         "convert_after" => conversion::convert_after(random, chain),
+        "origin" => origin::origin(random),
+        "origins" => origin::origins(random),
         "write_dimacs" => write_dimacs(random),
         "read_dimacs" => read_dimacs(random),
         "program" => program(random),
@@ -205,6 +208,8 @@ mod tests {
             "choose",
             "convert",
             "convert_after",
+            "origin",
+            "origins",
             "write_dimacs",
             "read_dimacs",
         ] {
@@ -252,7 +257,7 @@ mod tests {
             return node_file::read(&fields.input().unwrap()).ok();
         }
         let options = fields.number().unwrap();
-        if ["choose", "convert_after"].contains(&operation) {
+        if ["choose", "convert_after", "origin"].contains(&operation) {
             fields.number().unwrap();
         }
         Some((options, fields.input().unwrap()))
@@ -291,6 +296,8 @@ mod tests {
             "choose",
             "convert",
             "convert_after",
+            "origin",
+            "origins",
             "program",
         ] {
             let (mut alone, mut followed) = (BTreeMap::new(), BTreeMap::new());

@@ -5,7 +5,7 @@ use reference::choose::choose;
 use reference::convert;
 use reference::polarity::{self, Mark};
 use reference::protocol::{shown, Fields, Wrong};
-use reference::{dimacs_reader, dimacs_writer, program, set, table};
+use reference::{dimacs_reader, dimacs_writer, origin, program, set, table};
 
 /// The answer to a request.
 pub fn answer(line: &str) -> Result<String, Wrong> {
@@ -16,6 +16,8 @@ pub fn answer(line: &str) -> Result<String, Wrong> {
         "choose" => choose_set,
         "convert" => convert_table,
         "convert_after" => convert_after,
+        "origin" => origin_line,
+        "origins" => origin_lines,
         "write_dimacs" => write_dimacs,
         "read_dimacs" => read_dimacs,
         "program" => run_program,
@@ -107,6 +109,36 @@ fn convert_after(fields: &mut Fields) -> Result<String, Wrong> {
         table::check_taken(options, taken)?;
         let renamed = set::check(&nodes, &set)?;
         convert::clause_bytes(&nodes, taken, &renamed, lent)
+    }))
+}
+
+fn origin_line(fields: &mut Fields) -> Result<String, Wrong> {
+    let options = fields.number()?;
+    let clause = fields.number()?;
+    origin_of(fields, options, Some(clause))
+}
+
+fn origin_lines(fields: &mut Fields) -> Result<String, Wrong> {
+    let options = fields.number()?;
+    origin_of(fields, options, None)
+}
+
+/// The origin of a clause, or of all clauses.
+fn origin_of(fields: &mut Fields, options: u32, clause: Option<u32>) -> Result<String, Wrong> {
+    let table = fields.input()?;
+    let set = fields.input()?;
+    let option_names = fields.input()?;
+    let helper_names = fields.input()?;
+    let out = fields.output()?;
+    let answer = fields.answer_part()?;
+    Ok(written(out, answer, |lent| {
+        let nodes = table::check(&table, options)?;
+        let renamed = set::check(&nodes, &set)?;
+        let lists = origin::Lists {
+            options: &option_names,
+            helpers: &helper_names,
+        };
+        origin::lines(&nodes, options, &renamed, clause, lists, lent)
     }))
 }
 
@@ -268,6 +300,32 @@ mod tests {
     }
 
     #[test]
+    fn an_origin_changes_only_the_leading_bytes_of_its_line() {
+        // The names are `a`, `b` and `h`. The line of clause 5 is 5 2 3 up 1 a b h, with a newline.
+        let of = |operation: &str, names: &str, room: usize| {
+            answer(&format!("{operation} {SHARED} 00000100 {names} {room} 16")).unwrap()
+        };
+        assert_eq!(
+            of("origin 2 5", "610a620a 680a", 19),
+            "0 350932093309757009310961096209680a106b 00000000000000000300000006000000"
+        );
+        let refused = |number: u8, place: &str| {
+            format!("{number} 0560 {number:02x}000000{place}0000000000000000")
+        };
+        assert_eq!(of("origin 2 5", "610a620a 680a", 2), refused(7, "00000000"));
+        assert_eq!(of("origin 2 5", "610a620a =", 2), refused(16, "00000000"));
+        assert_eq!(of("origin 2 5", "- 680a", 2), refused(16, "00000000"));
+        assert_eq!(of("origin 2 6", "- 680a", 2), refused(15, "06000000"));
+        assert_eq!(of("origin 1 6", "- 680a", 2), refused(14, "01000000"));
+        assert_eq!(of("origins 2", "610a620a 680a", 2), refused(7, "00000000"));
+        assert_eq!(of("origins 2", "- 680a", 2), refused(16, "00000000"));
+        assert_eq!(
+            answer("origins 0 0000000000 00 - = 13 16").unwrap(),
+            "0 300930093009726f6f7409300a 00000000000000000000000001000000"
+        );
+    }
+
+    #[test]
     fn dimacs_is_written_and_read() {
         assert_eq!(
             answer("write_dimacs 2 feffffff0000000000000000 20 16").unwrap(),
@@ -317,6 +375,9 @@ mod tests {
             " check 1 - 16",
             "convert 1 0201000000 00 = 16",
             "convert_after 1 0201000000 00 8 16",
+            "origin 1 0201000000 00 610a - 20 16",
+            "origins 1 0 0201000000 00 610a - 20 16",
+            "origins 1 0201000000 00 610a 20 16",
             "read_dimacs 00 16",
         ] {
             assert!(answer(line).is_err(), "{line}");

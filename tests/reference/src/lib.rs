@@ -8,6 +8,7 @@ pub mod dimacs_writer;
 pub mod fast_choose;
 pub mod lists;
 pub mod node_file;
+pub mod origin;
 pub mod per_clause;
 pub mod polarity;
 pub mod program;

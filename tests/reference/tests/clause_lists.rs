@@ -1,10 +1,11 @@
-//! Totals, both ways of converting and both ways of choosing, against lists made as the rules write them.
+//! Totals, both ways of converting, origins and both ways of choosing, against lists made as the rules write them.
 
 use reference::answer::Refusal;
 use reference::choose::choose;
 use reference::convert::{clause_bytes, each_clause, measure};
 use reference::fast_choose::fast_choose;
 use reference::lists::Lists;
+use reference::origin;
 use reference::per_clause;
 use reference::polarity::marks;
 use reference::set::may_be_renamed;
@@ -59,8 +60,12 @@ fn whole(nodes: &[Node], helpers: &[i32]) -> Vec<(Clauses, Clauses)> {
     all
 }
 
-/// The whole output, made from whole lists.
-fn output(nodes: &[Node], options: u32, renamed: &[bool]) -> Clauses {
+/// The parts of the output, made from whole lists: a node, its helper, the word for the part, its clauses.
+fn parts(
+    nodes: &[Node],
+    options: u32,
+    renamed: &[bool],
+) -> Vec<(usize, i32, &'static str, Clauses)> {
     let mut helpers = vec![0; nodes.len()];
     let mut last = options as i32;
     for node in (0..nodes.len()).filter(|&node| renamed[node]) {
@@ -68,16 +73,29 @@ fn output(nodes: &[Node], options: u32, renamed: &[bool]) -> Clauses {
         helpers[node] = last;
     }
     let (lists, marks) = (whole(nodes, &helpers), marks(nodes));
-    let mut all = lists[nodes.len() - 1].0.clone();
+    let root = nodes.len() - 1;
+    let mut all = vec![(root, 0, "root", lists[root].0.clone())];
     for node in (0..nodes.len()).filter(|&node| renamed[node]) {
+        let helper = helpers[node];
         if marks[node].positive {
-            all.extend(join(&vec![vec![-helpers[node]]], &lists[node].0));
+            let down = join(&vec![vec![-helper]], &lists[node].0);
+            all.push((node, helper, "down", down));
         }
         if marks[node].negative {
-            all.extend(join(&lists[node].1, &vec![vec![helpers[node]]]));
+            let up = join(&lists[node].1, &vec![vec![helper]]);
+            all.push((node, helper, "up", up));
         }
     }
     all
+}
+
+/// The whole output, made from whole lists.
+fn output(nodes: &[Node], options: u32, renamed: &[bool]) -> Clauses {
+    let parts = parts(nodes, options, renamed);
+    parts
+        .into_iter()
+        .flat_map(|(_, _, _, clauses)| clauses)
+        .collect()
 }
 
 fn converted(nodes: &[Node], options: u32, renamed: &[bool]) -> Clauses {
@@ -167,6 +185,79 @@ fn totals_and_clauses_are_those_of_the_whole_lists() {
         );
     }
     assert!(compared > 3_000, "{compared}");
+}
+
+/// Lines of all clauses as the rules write them. Each option's name is `o` and its number, each helper's `h` and its own.
+fn told(nodes: &[Node], options: u32, renamed: &[bool]) -> Vec<String> {
+    let literal = |&literal: &i32| {
+        let sign = if literal < 0 { "!" } else { "" };
+        let variable = literal.unsigned_abs();
+        let letter = if variable > options { 'h' } else { 'o' };
+        format!("\t{sign}{letter}{variable}")
+    };
+    let mut lines = vec![];
+    for (node, helper, word, clauses) in parts(nodes, options, renamed) {
+        for (number, clause) in clauses.iter().enumerate() {
+            let literals: String = clause.iter().map(literal).collect();
+            let k = lines.len();
+            lines.push(format!(
+                "{k}\t{node}\t{helper}\t{word}\t{number}{literals}\n"
+            ));
+        }
+    }
+    lines
+}
+
+fn names(letter: char, first: u32, last: u32) -> String {
+    (first..=last)
+        .map(|variable| format!("{letter}{variable}\n"))
+        .collect()
+}
+
+#[test]
+fn origins_are_those_of_the_whole_lists() {
+    const V: u32 = 7;
+    let mut random = Random(2_718_281_828);
+    let (mut words, mut empty) = (std::collections::BTreeMap::new(), 0);
+    for turn in 0..4_000 {
+        let nodes = table(&mut random, 1 + turn % 14);
+        let renamed = some_set(&mut random, &nodes);
+        if !is_small(&nodes, &renamed) {
+            continue;
+        }
+        let last = V + renamed.iter().filter(|&&renamed| renamed).count() as u32;
+        let (option_names, helper_names) = (names('o', 1, V), names('h', V + 1, last));
+        let lists = origin::Lists {
+            options: option_names.as_bytes(),
+            helpers: helper_names.as_bytes(),
+        };
+        let expected = told(&nodes, V, &renamed);
+        let whole = expected.concat().into_bytes();
+        let values = [last, expected.len() as u32];
+        let found = |wanted: Option<u32>, room: usize| {
+            origin::lines(&nodes, V, &renamed, wanted, lists, room)
+        };
+        assert_eq!(found(None, whole.len()), Ok((whole, values)), "{nodes:?}");
+        // One line that is drawn, and no line behind the last.
+        if !expected.is_empty() {
+            let k = random.below(expected.len());
+            let line = expected[k].as_bytes().to_vec();
+            assert_eq!(found(Some(k as u32), line.len()), Ok((line, values)));
+        }
+        let over = found(Some(values[1]), usize::MAX);
+        assert_eq!(over, Err(Refusal::at(15, expected.len())));
+        for line in expected {
+            *words
+                .entry(line.split('\t').nth(3).unwrap().to_string())
+                .or_insert(0) += 1;
+            empty += usize::from(line.split('\t').count() == 5);
+        }
+    }
+    assert!(
+        words.len() == 3 && words.values().all(|&count| count > 1_000),
+        "{words:?}"
+    );
+    assert!(empty > 500, "{empty}");
 }
 
 /// Bytes that neither way of converting writes are told apart from those that it does.
