@@ -1,6 +1,6 @@
 -- The clause with number k of the output stands at one place: in one part, under one number there.
 -- Assumes nothing.
-use mathlib.Core.Path.{_≡_, refl, sym, ap, _∙_, subst}
+use mathlib.Core.Path.{_≡_, refl, sym, ap, _∙_, subst, subst⁻¹}
 use mathlib.Core.Bool.{Bool, true, false, cond}
 use mathlib.Core.List.{List, [], _∷_, _++_, append-nil, append-assoc}
 use Prim.Native.Nat.{ℕ, zero, suc, _+_, _-_, _≤_, _<_}
@@ -86,3 +86,21 @@ module _ (u : Renaming) (ns : List Node) (k : ℕ) where
       → getD (outputOf u ns) k [] ≡ getD (contentIn parts (place .part)) (place .number) []
   output-clause h =
       ap (λ (cs : List Clause). getD cs k []) (output-contents u ns) ∙ clause-at parts k place (output-stands h)
+
+-- of parts that are split: clause m of the part behind the first ones stands there
+module _ (p : Part (List Clause)) (qs : List (Part (List Clause))) where
+  start-split : (ps : List (Part (List Clause))) → startOf (countsOf (ps ++ (p ∷ qs))) (length ps) ≡ length (contentsOf ps)
+  start-split [] = refl
+  start-split (r ∷ ps) = omega (arith, start-split ps, length-append (r .content) (contentsOf ps))
+
+  content-split : (ps : List (Part (List Clause))) → contentIn (ps ++ (p ∷ qs)) (length ps) ≡ p .content
+  content-split [] = refl
+  content-split (r ∷ ps) = content-split ps
+
+  pub stands-split : (ps : List (Part (List Clause))) (m : ℕ) → m < length (p .content)
+      → Stands (ps ++ (p ∷ qs)) (length (contentsOf ps) + m) (record { part = length ps; number = m })
+  stands-split ps m h = record {
+    part = omega (arith, length-append ps (p ∷ qs));
+    number = subst⁻¹ (λ (cs : List Clause). m < length cs) (content-split ps) h;
+    sum = omega (arith, start-split ps);
+  }

@@ -1,3 +1,5 @@
 -- What only inner contracts cite.
+pub mod Grounds
 pub mod Pens
 pub mod Spots
+pub mod Ways

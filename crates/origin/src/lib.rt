@@ -1,3 +1,4 @@
 // Where each clause of an output comes from: its line, by the names of options and helpers.
+mod literal;
 mod part;
 mod pen;

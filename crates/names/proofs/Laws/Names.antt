@@ -11,8 +11,8 @@ use lib.ListN.{length, getD, take, drop}
 use borrow.Author.Tests.{not-true}
 use Rattle.laws.specs.Lists.{Every, none, more}
 use Rattle.laws.proofs.Choices.{both, neither}
-use Rattle.text.specs.Texts.{ahead, parted}
-use Rattle.text.proofs.Laws.Pieces.{joined, joined-parted, free, parted-piece}
+use Rattle.text.specs.Texts.{ahead, parted, joined}
+use Rattle.text.proofs.Laws.Pieces.{joined-parted, free, parted-piece}
 use Rattle.names.specs.Names.{tab, newline, has, isNone, isName, namesAre, rightNames, listed, nameIn}
 
 -- what may stand in a list: a name without a newline

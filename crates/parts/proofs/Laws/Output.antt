@@ -47,7 +47,7 @@ alone : (cs : List Clause) → map (λ c. c ++ []) cs ≡ cs
 alone [] = refl
 alone (c ∷ cs) = λ i. append-nil c i ∷ alone cs i
 
-contents-append : (ps qs : List (Part (List Clause))) → contentsOf (ps ++ qs) ≡ contentsOf ps ++ contentsOf qs
+pub contents-append : (ps qs : List (Part (List Clause))) → contentsOf (ps ++ qs) ≡ contentsOf ps ++ contentsOf qs
 contents-append [] qs = refl
 contents-append (p ∷ ps) qs =
     ap (λ (r : List Clause). p .content ++ r) (contents-append ps qs) ∙ sym (append-assoc (p .content) (contentsOf ps) (contentsOf qs))
