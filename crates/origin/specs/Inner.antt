@@ -1,5 +1,6 @@
 -- What only inner contracts cite.
 pub mod Grounds
+pub mod Lines
 pub mod Pens
 pub mod Spots
 pub mod Ways
