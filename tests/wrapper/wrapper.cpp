@@ -200,7 +200,7 @@ void check_sentences()
         "a child is not below its node",
         "a symbol is not one of 1 to V, the option count",
         "there is no clause of this number",
-        "a list of names has too few or too many, an empty name, a tab, or no newline at its end",
+        "a list of names has a name too few or too many, an empty name, a tab, or no newline at its end",
         "there is no such number",
     };
     for (uint32_t number = 0; number < sentences.size(); number++) {
@@ -509,6 +509,25 @@ void check_long_origins()
 {
     const std::string_view x = "x\n";
     std::string told = "something";
+    // 1,023 nots above the last option, all but the root renamed: lines of the largest node and helper numbers.
+    Bytes nots = {2, 0, 125, 0, 0};
+    for (int turn = 0; turn < 1023; turn++)
+        append(nots, 3, last(nots), 0);
+    Bytes all(1024, 1);
+    all.front() = 0;
+    all.back() = 0;
+    std::string options;
+    for (int option = 0; option < 32000; option++)
+        options += x;
+    std::string helpers;
+    for (int helper = 0; helper < 1022; helper++)
+        helpers += x;
+    const simbolufa::answer totals = simbolufa::measure(nots, 32000, all);
+    std::string lines(28 * size_t{totals.first} + 3 * size_t{totals.second}, '#');
+    expect("the room that simbolufa.h says",
+           totals && is(simbolufa::origins(nots, 32000, all, options, helpers, lines), 0, 0, 33022, totals.first));
+    expect("1,023 lines", is(simbolufa::origin_lines(nots, 32000, all, options, helpers, told), 0, 0, 33022, 1023) &&
+                              lines.compare(0, told.size(), told) == 0);
     const Bytes truth = {1, 0, 0, 0, 0};
     expect("no clause", is(simbolufa::origin_lines(truth, 0, Bytes(1), {}, {}, told), 0, 0, 0, 0) && told.empty());
     const Bytes falsehood = {0, 0, 0, 0, 0};
@@ -516,11 +535,11 @@ void check_long_origins()
                                   told == "0\t0\t0\troot\t0\n");
     expect("65,534 lines", is(simbolufa::origin_lines(many_clauses(false), 1, Bytes(30), x, {}, told), 0, 0, 1, 65534));
     expect("as many newlines", std::count(told.begin(), told.end(), '\n') == 65534);
-    const std::string_view last = "\n65533\t29\t0\troot\t65533\tx\n";
-    expect("the last line", told.size() > last.size() && told.substr(told.size() - last.size()) == last);
+    const std::string_view end = "\n65533\t29\t0\troot\t65533\tx\n";
+    expect("the last line", told.size() > end.size() && told.substr(told.size() - end.size()) == end);
     expect("its line alone",
            is(simbolufa::origin_line(many_clauses(false), 1, Bytes(30), 65533, x, {}, told), 0, 0, 1, 65534) &&
-               told == last.substr(1));
+               told == end.substr(1));
     expect("524,288 literals",
            is(simbolufa::origin_line(doubled_literals(19), 1, Bytes(20), 0, x, {}, told), 0, 0, 1, 1) &&
                told.size() == 14 + 2 * size_t{524288});
