@@ -60,11 +60,15 @@
  *
  *   The caller lends two lists of names: one has V names, the other has one for each renamed node. A newline
  *   stands behind each name, behind the last one too. A name has at least one byte, of any value but tab and
- *   newline. Option s has name s of the first list. Helper V + j has name j of the second, so its names
- *   are in rising node number. A list for no variable is empty.
+ *   newline. Option s has name s of the first list. Helper V + j has name j of the second, so these are in
+ *   rising node number. A list for no variable is empty.
  *
- *   With s1 equivalent s2 as node 2, the root node 2 equivalent node 2 as node 3, node 2 renamed, and the
- *   names JPEG, HDR and E, the six lines are these, with spaces for tabs:
+ *   A line has at most 28 bytes beside its literals. A literal takes the bytes of its name and one or two
+ *   more. So all lines of c clauses with l literals take at most 28 * c + (m + 2) * l bytes, where the
+ *   longest name has m bytes. simbolufa_measure tells c and l.
+ *
+ *   Node 2 is s1 equivalent s2. The root, node 3, is node 2 equivalent node 2. With node 2 renamed and with the
+ *   names JPEG, HDR and E, these are the six lines. Spaces stand for tabs here:
  *
  *     0 3 0 root 0 !E E
  *     1 3 0 root 1 !E E
@@ -185,7 +189,7 @@ enum simbolufa_number {
     /* The conversion has no clause of the number that is asked for: they count from 0. Place: that number. */
     SIMBOLUFA_REFUSED_CLAUSE_NUMBER = 15,
     /*
-     * A list of names has too few names or too many, an empty name, a tab, or no newline behind its last
+     * A list of names has a name too few or too many, an empty name, a tab, or no newline behind its last
      * name.
      */
     SIMBOLUFA_REFUSED_NAMES = 16
@@ -273,7 +277,7 @@ uint32_t simbolufa_origin(const uint8_t *table, size_t table_len, uint32_t optio
 
 /*
  * Tells where all clauses of a conversion come from: the lines of simbolufa_origin for clause 0, 1, 2 and so
- * on, one after the other. It is one call, so it takes much less time than a call for each clause.
+ * on, one after the other. Table, set and names are checked once, and not again for each clause.
  *
  * Returns what simbolufa_origin returns, without 15; 7 where all lines together do not fit. On 0 the lines are
  * the first bytes of `lines`, and the bytes after them are not changed. The values of the answer part are the
@@ -361,7 +365,7 @@ static inline const char *simbolufa_sentence(uint32_t number)
     case SIMBOLUFA_REFUSED_CLAUSE_NUMBER:
         return "there is no clause of this number";
     case SIMBOLUFA_REFUSED_NAMES:
-        return "a list of names has too few or too many, an empty name, a tab, or no newline at its end";
+        return "a list of names has a name too few or too many, an empty name, a tab, or no newline at its end";
     default:
         return "there is no such number";
     }

@@ -327,8 +327,8 @@ void hold_lines(const Named &named, const Texts &names, const Said &totals, cons
         for (;; part++, number = 0) {
             must(part < parts.size(), "origins: a line that is not the clause's");
             const Part &now = parts[part];
-            std::string front = std::to_string(k) + "\t" + std::to_string(now.node) + "\t" + std::to_string(now.helper) +
-                                "\t" + now.word + "\t" + std::to_string(number);
+            std::string front = std::to_string(k) + "\t" + std::to_string(now.node) + "\t" +
+                                std::to_string(now.helper) + "\t" + now.word + "\t" + std::to_string(number);
             if (line == front + literals && may_stand_in(now, clauses, start, word))
                 break;
         }
@@ -345,14 +345,14 @@ void origin(const Case &from, const Named &named, Wanted clause, size_t answer_l
     const Formula &formula = named.formula;
     Said totals = measure(from, formula, SIMBOLUFA_ANSWER_LENGTH);
     Texts names;
-    bool has_names = add_names(named.option_names, formula.options, names) &&
-                     add_names(named.helper_names, named.helpers(), names);
-    uint32_t expected = totals.number != 0                          ? totals.number
-                        : totals.first == clause_ceiling            ? 5
-                        : totals.second == literal_ceiling          ? 6
-                        : clause && *clause >= totals.first         ? 15
-                        : !has_names                                ? 16
-                                                                    : 0;
+    bool has_names =
+        add_names(named.option_names, formula.options, names) && add_names(named.helper_names, named.helpers(), names);
+    uint32_t expected = totals.number != 0                  ? totals.number
+                        : totals.first == clause_ceiling    ? 5
+                        : totals.second == literal_ceiling  ? 6
+                        : clause && *clause >= totals.first ? 15
+                        : !has_names                        ? 16
+                                                            : 0;
     size_t longest = 0;
     for (const std::string &name : names)
         longest = std::max(longest, name.size());
@@ -503,7 +503,8 @@ void write_any(const Case &from)
     write_dimacs(from, clauses, from.number(), from.answer_length());
 }
 
-// Chooses, converts under the chosen set, converts once more after that, writes the clauses, and asks where they come from.
+// Chooses, converts under the chosen set, converts once more after that, writes the clauses, and asks where they come
+// from.
 void whole(const Case &from)
 {
     Formula formula = formula_of(from);

@@ -1,11 +1,12 @@
 // Calls all entries from 16 threads at once, and compares what each thread is told with what one thread was told before.
 //
-// All threads lend the same tables, sets, clause bytes and texts to be read, and each lends buffers of its own to be
-// written. With the word `race` two threads lend one buffer to be written, and with `past` a buffer is lent as longer than
-// it is: a sanitizer that looks into the library must see both.
+// All threads lend the same tables, sets, clause bytes, names and texts to be read, and each lends buffers of its own to
+// be written. With the word `race` two threads lend one buffer to be written, and with `past` a buffer is lent as longer
+// than it is: a sanitizer that looks into the library must see both.
 
 #include <simbolufa.hpp>
 
+#include <algorithm>
 #include <atomic>
 #include <cstddef>
 #include <cstdint>
@@ -48,6 +49,10 @@ struct Guard {
     Bytes set;
     Bytes clauses;
     std::string text;
+    std::string option_names;
+    std::string helper_names;
+    // Where the clauses come from.
+    std::string lines;
 };
 
 // All that the entries say of a guard, each answer and each buffer.
@@ -100,11 +105,27 @@ Told ask(const Guard &guard, uint32_t allowance)
     told.add(simbolufa::convert(guard.table, options, guard.set, {}));
     told.add(simbolufa::convert_after(guard.table, options, options + 900, guard.set, clauses), clauses);
     told.add(simbolufa::convert_after(guard.table, options, options - 1, guard.set, clauses));
+    const std::string &names = guard.option_names;
+    const std::string &helpers = guard.helper_names;
+    Bytes lines(guard.lines.size(), 9);
+    told.add(simbolufa::origins(guard.table, options, guard.set, names, helpers, lines), lines);
+    told.add(simbolufa::origins(guard.table, options, guard.set, helpers, names, lines));
+    told.add(simbolufa::origin(guard.table, options, guard.set, allowance % 2, names, helpers, lines), lines);
+    told.add(simbolufa::origin(guard.table, options, guard.set, 65535, names, helpers, lines));
     told.add(simbolufa::write_dimacs(guard.clauses, 2000, text), text);
     told.add(simbolufa::write_dimacs(guard.clauses, 1, text));
     told.add(simbolufa::read_dimacs(guard.text, clauses), clauses);
     told.add(simbolufa::read_dimacs(guard.text.substr(1), clauses));
     return told;
+}
+
+// A name for each of so many variables.
+std::string names_of(char letter, size_t count)
+{
+    std::string names;
+    for (size_t number = 1; number <= count; number++)
+        names += letter + std::to_string(number) + "\n";
+    return names;
 }
 
 std::vector<Guard> guards()
@@ -122,7 +143,11 @@ std::vector<Guard> guards()
         if (!simbolufa::convert(guard.table, options, guard.set, guard.clauses))
             continue;
         guard.text.resize(simbolufa::text_bytes(guard.clauses, 2000));
-        if (simbolufa::write_dimacs(guard.clauses, 2000, guard.text))
+        guard.option_names = names_of('o', options);
+        guard.helper_names = names_of('h', static_cast<size_t>(std::count(guard.set.begin(), guard.set.end(), 1)));
+        if (simbolufa::write_dimacs(guard.clauses, 2000, guard.text) &&
+            simbolufa::origin_lines(guard.table, options, guard.set, guard.option_names, guard.helper_names,
+                                    guard.lines))
             all.push_back(guard);
     }
     return all;

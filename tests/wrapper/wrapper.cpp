@@ -1,4 +1,4 @@
-// Checks what simbolufa.hpp adds to simbolufa.h: its views, its answer, and the sizes of a conversion and of a text.
+// Checks what simbolufa.hpp adds to simbolufa.h: its views, its answer, and the sizes of a conversion and of texts.
 
 #include <simbolufa.hpp>
 // Twice, because a host's headers may each include it.
@@ -74,6 +74,8 @@ static_assert(noexcept(simbolufa::write_dimacs({}, 0, {})) && noexcept(simbolufa
 static_assert(noexcept(simbolufa::text_bytes({}, 0)) && noexcept(simbolufa::convert_after({}, 0, 0, {}, {})));
 static_assert(noexcept(simbolufa::together(0).convert({}, {}, {})) && simbolufa::together(7).variables() == 7);
 static_assert(!std::is_convertible_v<uint32_t, simbolufa::together>);
+static_assert(noexcept(simbolufa::origin({}, 0, {}, 0, {}, {}, {})));
+static_assert(noexcept(simbolufa::origins({}, 0, {}, {}, {}, {})));
 static_assert(std::is_trivially_copyable_v<simbolufa::answer>);
 static_assert(noexcept(simbolufa::answer{}.sentence()) && noexcept(simbolufa::answer{}.is_record()));
 // An answer is asked, and is no number.
@@ -181,7 +183,7 @@ void check_calls()
 // What each number says, and which of them are about a record. The words are those of simbolufa.h.
 void check_sentences()
 {
-    const std::array<std::string_view, 16> sentences = {
+    const std::array<std::string_view, 18> sentences = {
         "nothing is wrong",
         "the table is empty, is not a multiple of 5 bytes, or is over 5,120 bytes",
         "the option count is over 32,000, or what is taken is below it or over 32,000",
@@ -197,6 +199,8 @@ void check_sentences()
         "a field that the kind does not use is not 0",
         "a child is not below its node",
         "a symbol is not one of 1 to V, the option count",
+        "there is no clause of this number",
+        "a list of names has a name too few or too many, an empty name, a tab, or no newline at its end",
         "there is no such number",
     };
     for (uint32_t number = 0; number < sentences.size(); number++) {
@@ -207,7 +211,7 @@ void check_sentences()
         const uint32_t line = is_record ? 9 : number == 10 ? 7 : number == 2 ? 1 : number == 1 ? 2 : 0;
         expect("a line", simbolufa_line_of(number, 7) == line);
     }
-    expect("another number", simbolufa::answer{simbolufa_answer{UINT32_MAX, 0, 0, 0}}.sentence() == sentences[15]);
+    expect("another number", simbolufa::answer{simbolufa_answer{UINT32_MAX, 0, 0, 0}}.sentence() == sentences[17]);
     const uint8_t capital[] = {'O', 'p', 't', 'i', 'o', 'n', 's', '\t', '2', '\n'};
     const std::string_view small = "the word options is not in small letters";
     expect("a node file", small == simbolufa_node_file_sentence(capital, sizeof capital, 10, 1));
@@ -228,7 +232,7 @@ void check_node_files()
             made.insert(random() % (made.size() + 1), 1, drawn[random() % drawn.size()]);
         const Bytes file(made.begin(), made.end());
         bool holds = true;
-        for (uint32_t number = 0; number < 16; number++)
+        for (uint32_t number = 0; number < 18; number++)
             for (const uint32_t place : {0u, 1u, 2u, 3u, 4u, 5u, 1026u, UINT32_MAX}) {
                 const std::string_view words = simbolufa_node_file_sentence(file.data(), file.size(), number, place);
                 holds = holds && words.size() > 9 && words[0] >= 'a' && words[0] <= 't' && words.back() != '.';
@@ -425,6 +429,140 @@ void check_together()
     expect("too many options", is(none_right.convert(table, renamed, second), 2, 0, 0, 0));
 }
 
+// The lines of the table above with node 2 renamed, one for each clause.
+constexpr std::string_view option_names = "JPEG\nHDR\n";
+constexpr std::string_view helper_names = "E\n";
+const std::array<std::string, 6> origin_of = {
+    "0\t3\t0\troot\t0\t!E\tE\n",          "1\t3\t0\troot\t1\t!E\tE\n",        "2\t2\t3\tdown\t0\t!E\t!JPEG\tHDR\n",
+    "3\t2\t3\tdown\t1\t!E\t!HDR\tJPEG\n", "4\t2\t3\tup\t0\t!JPEG\t!HDR\tE\n", "5\t2\t3\tup\t1\tJPEG\tHDR\tE\n",
+};
+
+void check_origins()
+{
+    std::string all;
+    for (uint32_t clause = 0; clause < origin_of.size(); clause++) {
+        const std::string &expected = origin_of[clause];
+        all += expected;
+        std::string line(expected.size() + 3, '#');
+        expect("the origin of a clause",
+               is(simbolufa::origin(table, 2, renamed, clause, option_names, helper_names, line), 0, 0, 3, 6) &&
+                   line == expected + "###");
+        line.assign(expected.size() - 1, '#');
+        expect("a line in one byte less",
+               is(simbolufa::origin(table, 2, renamed, clause, option_names, helper_names, line), 7, 0, 0, 0) &&
+                   line == std::string(expected.size() - 1, '#'));
+        expect("a line of its own length",
+               is(simbolufa::origin_line(table, 2, renamed, clause, option_names, helper_names, line), 0, 0, 3, 6) &&
+                   line == expected);
+    }
+    std::string lines(all.size() + 1, '#');
+    expect("all origins", is(simbolufa::origins(table, 2, renamed, option_names, helper_names, lines), 0, 0, 3, 6) &&
+                              lines == all + "#");
+    lines.resize(all.size() - 1);
+    expect("all in one byte less",
+           is(simbolufa::origins(table, 2, renamed, option_names, helper_names, lines), 7, 0, 0, 0));
+    expect("lines of their own length",
+           is(simbolufa::origin_lines(table, 2, renamed, option_names, helper_names, lines), 0, 0, 3, 6) &&
+               lines == all);
+    // What was there before plays no part, and bytes may be called something else.
+    std::vector<std::byte> bytes(5000, std::byte{'\n'});
+    expect("lines as bytes",
+           is(simbolufa::origin_lines(table, 2, renamed, option_names, helper_names, bytes), 0, 0, 3, 6) &&
+               bytes.size() == all.size() && std::memcmp(bytes.data(), all.data(), all.size()) == 0);
+    Bytes line(1, '\n');
+    expect("a line as numbers",
+           is(simbolufa::origin_line(table, 2, renamed, 5, option_names, helper_names, line), 0, 0, 3, 6) &&
+               std::string(line.begin(), line.end()) == origin_of[5]);
+}
+
+void check_refused_origins()
+{
+    std::string told = "something";
+    const uint32_t most = UINT32_MAX;
+    expect("no such clause",
+           is(simbolufa::origin_line(table, 2, renamed, 6, option_names, helper_names, told), 15, 6, 0, 0));
+    expect("no text", told.empty());
+    expect("the largest number", is(simbolufa::origin(table, 2, renamed, most, {}, {}, {}), 15, most, 0, 0));
+    for (const std::string_view names : {"JPEG\n", "JPEG\nHDR\nPNG\n", "JPEG\nHDR", "\nHDR\n", "JPEG\nHD\tR\n", ""}) {
+        told = "something";
+        expect("wrong names of options",
+               is(simbolufa::origin_line(table, 2, renamed, 0, names, helper_names, told), 16, 0, 0, 0) &&
+                   told.empty());
+        expect("wrong names for all", is(simbolufa::origins(table, 2, renamed, names, helper_names, {}), 16, 0, 0, 0));
+    }
+    for (const std::string_view names : {"", "E", "E\nF\n", "\n", "\t\n", "E\n\n"}) {
+        told = "something";
+        expect("wrong names of helpers",
+               is(simbolufa::origin_lines(table, 2, renamed, option_names, names, told), 16, 0, 0, 0) && told.empty());
+    }
+    expect("a wrong table", is(simbolufa::origin_lines({}, 2, renamed, option_names, helper_names, told), 1, 0, 0, 0));
+    expect("a wrong symbol",
+           is(simbolufa::origin_lines(table, 1, renamed, option_names, helper_names, told), 14, 1, 0, 0));
+    expect("a wrong set", is(simbolufa::origin_line(table, 2, {}, 0, option_names, helper_names, told), 4, 4, 0, 0));
+    expect("too many clauses", is(simbolufa::origin_lines(many_clauses(true), 1, Bytes(31), {}, {}, told), 5, 0, 0, 0));
+    expect("too many literals",
+           is(simbolufa::origin_lines(doubled_literals(20), 1, Bytes(21), {}, {}, told), 6, 0, 0, 0));
+}
+
+// Texts of all lengths, for which room is made.
+void check_long_origins()
+{
+    const std::string_view x = "x\n";
+    std::string told = "something";
+    // 1,023 nots above the last option, all but the root renamed: lines of the largest node and helper numbers.
+    Bytes nots = {2, 0, 125, 0, 0};
+    for (int turn = 0; turn < 1023; turn++)
+        append(nots, 3, last(nots), 0);
+    Bytes all(1024, 1);
+    all.front() = 0;
+    all.back() = 0;
+    std::string options;
+    for (int option = 0; option < 32000; option++)
+        options += x;
+    std::string helpers;
+    for (int helper = 0; helper < 1022; helper++)
+        helpers += x;
+    const simbolufa::answer totals = simbolufa::measure(nots, 32000, all);
+    std::string lines(28 * size_t{totals.first} + 3 * size_t{totals.second}, '#');
+    expect("the room that simbolufa.h says",
+           totals && is(simbolufa::origins(nots, 32000, all, options, helpers, lines), 0, 0, 33022, totals.first));
+    expect("1,023 lines", is(simbolufa::origin_lines(nots, 32000, all, options, helpers, told), 0, 0, 33022, 1023) &&
+                              lines.compare(0, told.size(), told) == 0);
+    const Bytes truth = {1, 0, 0, 0, 0};
+    expect("no clause", is(simbolufa::origin_lines(truth, 0, Bytes(1), {}, {}, told), 0, 0, 0, 0) && told.empty());
+    const Bytes falsehood = {0, 0, 0, 0, 0};
+    expect("an empty clause", is(simbolufa::origin_lines(falsehood, 0, Bytes(1), {}, {}, told), 0, 0, 0, 1) &&
+                                  told == "0\t0\t0\troot\t0\n");
+    expect("65,534 lines", is(simbolufa::origin_lines(many_clauses(false), 1, Bytes(30), x, {}, told), 0, 0, 1, 65534));
+    expect("as many newlines", std::count(told.begin(), told.end(), '\n') == 65534);
+    const std::string_view end = "\n65533\t29\t0\troot\t65533\tx\n";
+    expect("the last line", told.size() > end.size() && told.substr(told.size() - end.size()) == end);
+    expect("its line alone",
+           is(simbolufa::origin_line(many_clauses(false), 1, Bytes(30), 65533, x, {}, told), 0, 0, 1, 65534) &&
+               told == end.substr(1));
+    expect("524,288 literals",
+           is(simbolufa::origin_line(doubled_literals(19), 1, Bytes(20), 0, x, {}, told), 0, 0, 1, 1) &&
+               told.size() == 14 + 2 * size_t{524288});
+    for (const size_t length : {1u, 29u, 30u, 31u, 200u, 255u, 256u, 257u, 10000u, 1000000u}) {
+        const std::string name(length, 'n');
+        std::string again;
+        const bool is_line =
+            bool(simbolufa::origin_line(table, 2, renamed, 5, "JPEG\n" + name + "\n", helper_names, told));
+        expect("a long name", is_line && told == "5\t2\t3\tup\t1\tJPEG\t" + name + "\tE\n");
+        const bool has_lines = bool(simbolufa::origin_lines(table, 2, renamed, option_names, name + "\n", again));
+        expect("a long name in all lines", has_lines && again.size() == 134 + 8 * (length - 1));
+    }
+    std::string many;
+    for (int option = 1; option <= 32000; option++)
+        many += "o" + std::to_string(option) + "\n";
+    const Bytes highest = {2, 0, 125, 0, 0};
+    expect("the last of 32,000 options",
+           is(simbolufa::origin_line(highest, 32000, Bytes(1), 0, many, {}, told), 0, 0, 32000, 1) &&
+               told == "0\t0\t0\troot\t0\to32000\n");
+    expect("one option more",
+           is(simbolufa::origin_line(highest, 32000, Bytes(1), 0, many + "o\n", {}, told), 16, 0, 0, 0));
+}
+
 } // namespace
 
 int main()
@@ -438,6 +576,9 @@ int main()
     check_text_sizes();
     check_convert_after();
     check_together();
+    check_origins();
+    check_refused_origins();
+    check_long_origins();
     std::printf("wrapper: %d checks, %d wrong\n", checks, wrong);
     return wrong == 0 ? 0 : 1;
 }

@@ -87,6 +87,13 @@ pub fn over_options(random: &mut Random, options: u32) -> Formula {
     }
 }
 
+/// A right formula whose root reaches all of its nodes, which are many.
+pub fn many_reached(random: &mut Random) -> Formula {
+    let options = random.between(1, 60) as u32;
+    let leaves = random.between(20, 250);
+    from_nodes(reached(random, options, leaves), options)
+}
+
 /// A formula in which one record or several are damaged.
 pub fn with_damaged_records(random: &mut Random, mut formula: Formula) -> Formula {
     damage(random, formula.options, &mut formula.nodes);

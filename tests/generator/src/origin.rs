@@ -2,7 +2,7 @@
 
 use crate::conversion::{some_set, LONG, MOST_OPTIONS};
 use crate::field::{answer_part, input, output, room};
-use crate::formula::{small_formula, Formula};
+use crate::formula::{many_reached, small_formula, Formula};
 use crate::name_list::{self, NameList};
 use crate::random::Random;
 use reference::origin::{Asked, Lists};
@@ -29,6 +29,20 @@ fn formula(random: &mut Random) -> Formula {
         }
     }
     formula
+}
+
+/// A formula and a set. Now and then all nodes are renamed that may be, and there are many.
+fn formula_and_set(random: &mut Random) -> (Formula, Vec<u8>) {
+    if random.percent(2) {
+        let formula = many_reached(random);
+        if let Ok(nodes) = table::check(&formula.table, formula.options) {
+            let may = reference::set::may_be_renamed(&nodes);
+            return (formula, may.into_iter().map(u8::from).collect());
+        }
+    }
+    let formula = formula(random);
+    let set = some_set(random, &formula);
+    (formula, set)
 }
 
 /// The lists of a request, each of which may be at fault.
@@ -76,9 +90,8 @@ fn clause_number(random: &mut Random, clauses: u32) -> u32 {
 
 /// Fields of a request behind the option count: about one clause where `is_one`, else about all.
 fn fields(random: &mut Random, is_one: bool) -> String {
-    let formula = formula(random);
+    let (formula, set) = formula_and_set(random);
     let options = formula.options;
-    let set = some_set(random, &formula);
     let (option_list, helper_list) = name_lists(random, options, &set);
     let right = table::check(&formula.table, options)
         .and_then(|nodes| Ok((reference::set::check(&nodes, &set)?, nodes)));
@@ -279,6 +292,13 @@ mod tests {
         };
         let named = requests.iter().filter(named).count();
         assert!(many > 60 && named > 60, "{many} {named}");
+        let renamed = |request: &&String| {
+            let read = read(request, false);
+            let helpers = read.set.iter().filter(|&&byte| byte == 1).count();
+            helpers > 64 && number(&read, None, None) == 0
+        };
+        let renamed = requests.iter().filter(renamed).count();
+        assert!(renamed > 40, "{renamed}");
         // They are repeated names, so that requests stay short.
         assert!(
             longest < Some(1 << 20) && all < 30_000_000,
