@@ -1,7 +1,9 @@
 -- Laws of lines and of the parts that they speak of, by subject.
+pub mod Clauses
 pub mod Firsts
 pub mod Opens
 pub mod Pens
 pub mod Sources
+pub mod Spoken
 pub mod Spots
 pub mod Ways

@@ -1,32 +1,33 @@
+-- `origin::line::put_literal` meets its contract: the name is looked up, and put behind its sign. Assumes nothing.
 use borrow.Author.Needs.{needs}
+use Rattle.origin.proofs.Laws.Spoken.{findable, literal-spoken}
 use Rattle.origin.proofs.line.put_literal.Statement.{statement}
 use Rattle.origin.proofs.line.put_literal.Tie as tie
-use Rattle.origin.proofs.line.put_literal.Reads as reads
-use Rattle.origin.proofs.line.put_literal.Lts as lts
-use Rattle.names.proofs.lookup.lookup.Reads as lookup-reads
-use Rattle.origin.proofs.line.put_sign.Reads as put-sign-reads
-use Rattle.origin.proofs.pen.put.Reads as put-reads
 
--- src/line.rt:93:9
-lookup-requires : tie.Need-lookup-requires
-lookup-requires c κs = ?
+asked : tie.Need-lookup-requires
+asked c κs =
+    let start = c .before .before .before .before .before in
+    let a = start .args in
+    findable (a .option-names .now) (a .helper-names .now) (a .options) (a .option-notes .now) (a .helper-notes .now) (a .out .now)
+    (a .plain) (a .variable) (a .pen) (start .pre)
 
--- src/line.rt:101:9
-put-sign-requires : tie.Need-put-sign-requires
-put-sign-requires c κs = search needs
-
--- src/line.rt:102:5
-put-requires : tie.Need-put-requires
-put-requires c κs = search needs
-
--- src/line.rt:76:1
-same-length : tie.Need-same-length
-same-length c = search needs
-
--- src/line.rt:76:1
-returns : tie.Need-returns
-returns c = ?
+spoken : tie.Need-returns
+spoken c =
+    let put = c .before .before in
+    let sign = put .before .before .before .before in
+    let look = sign .before .before in
+    let toward-start = look .before .before .before .before in
+    let start = toward-start .before .before in
+    let a = start .args in
+    literal-spoken (a .option-names .now) (a .helper-names .now) (a .options) (a .option-notes .now) (a .helper-notes .now) (a .out .now)
+    (a .plain) (a .variable) (a .pen) (start .pre) _ _ _ _ _ _ _ (look .lookup .ensures) (sign .put-sign .ensures) (put .put .ensures)
 
 pub put-literal-spec : {M : Type 1} → statement M
 put-literal-spec =
-    tie.close (tie.spec lookup-requires put-sign-requires put-requires same-length returns)
+    tie.close
+    (tie.spec
+    asked
+    (λ c κs. search needs)
+    (λ c κs. search needs)
+    (λ c. search needs)
+    spoken)

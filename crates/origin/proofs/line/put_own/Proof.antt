@@ -1,50 +1,59 @@
+-- `origin::line::put_own` meets its contract. The loop's invariant: the literals before the one that is found are put.
+-- The measure is the number of literals that are left. Assumes nothing.
+use mathlib.Core.Path.{refl}
+use mathlib.Core.List.{[]}
+use lib.ListN.{getD}
+use Rattle.formula.specs.Tables.{nodesOf}
+use Rattle.walk.specs.Inner.Lists.{namesIn, ownList}
+use Rattle.origin.proofs.Laws.Clauses.{literalsLeft, Saying, saying-start, saying-end, saying-voiced, saying-next, saying-less}
 use Rattle.origin.proofs.line.put_own.Statement.{statement}
 use Rattle.origin.proofs.line.put_own.Tie as tie
-use Rattle.origin.proofs.line.put_own.Reads as reads
-use Rattle.origin.proofs.line.put_own.Lts as lts
-use Rattle.origin.proofs.line.put_literal.Reads as put-literal-reads
-use Rattle.origin.proofs.literal.first.Reads as first-reads
-use Rattle.origin.proofs.literal.next.Reads as next-reads
 
 abbrev Inv-loop : tie.InvT-loop
-Inv-loop table clauses literals helpers option-names helper-names option-notes₀ helper-notes₀ options node sign k out₀ ways₀ next-pen₀ found₀ option-notes helper-notes out ways next-pen found =
-    ?
+Inv-loop table clauses literals helpers option-names helper-names option-notes₀ helper-notes₀ options node sign k out₀ ways₀ next-pen₀
+    found₀ option-notes helper-notes out ways next-pen found =
+    Saying (table .now) clauses literals helpers option-names helper-names options
+    (getD (ownList (namesIn helpers) (nodesOf (table .now)) node sign) k []) out₀ next-pen₀ option-notes helper-notes out ways next-pen found
 
 abbrev μ-loop : tie.MeasureT-loop
-μ-loop table clauses literals helpers option-names helper-names option-notes₀ helper-notes₀ options node sign k out₀ ways₀ next-pen₀ found₀ option-notes helper-notes out ways next-pen found =
-    ?
+μ-loop table clauses literals helpers option-names helper-names option-notes₀ helper-notes₀ options node sign k out₀ ways₀ next-pen₀
+    found₀ option-notes helper-notes out ways next-pen found =
+    literalsLeft (table .now) clauses literals helpers option-names helper-names options found ways
 
--- src/line.rt:170:9
-first-requires : tie.Need-first-requires Inv-loop μ-loop
-first-requires c κs = ?
+first : tie.Need-first-requires Inv-loop μ-loop
+first c κs = let start = c .before .before .before .before in (start .pre .0, refl)
 
--- src/line.rt:171:5
-loop-holds : tie.Need-loop-holds Inv-loop μ-loop
-loop-holds c = ?
+begun : tie.Need-loop-holds Inv-loop μ-loop
+begun c =
+    let start = c .before .before .before .before .before in
+    saying-start _ _ _ _ _ _ _ _ _ _ _ _ _ _ (start .pre .1) (c .first .ensures)
 
--- src/line.rt:172:9
-put-literal-requires : tie.Need-put-literal-requires Inv-loop μ-loop
-put-literal-requires c κs = ?
+asked : tie.Need-put-literal-requires Inv-loop μ-loop
+asked c κs =
+    let test = c .before .before .before in
+    saying-voiced _ _ _ _ _ _ _ _ _ _ _ _ _ _ _ _ (test .before .loop .inv) (test .loop-test .taken)
 
--- src/line.rt:183:9
-next-requires : tie.Need-next-requires Inv-loop μ-loop
-next-requires c κs = ?
+waiting : tie.Need-next-requires Inv-loop μ-loop
+waiting c κs =
+    let put = c .before .before .before in
+    let test = put .before .before .before .before in
+    test .before .loop .inv .first .waiting
 
--- src/line.rt:171:5
-loop-less : tie.Need-loop-less Inv-loop μ-loop
-loop-less c = ?
+fewer : tie.Need-loop-less Inv-loop μ-loop
+fewer c =
+    let put = c .before .before .before .before in
+    let test = put .before .before .before .before in
+    saying-less _ _ _ _ _ _ _ _ _ _ _ _ _ _ _ _ (test .before .loop .inv) (test .loop-test .taken) _ _ (c .next .ensures)
 
--- src/line.rt:171:5
-loop-again : tie.Need-loop-again Inv-loop μ-loop
-loop-again c = ?
+again : tie.Need-loop-again Inv-loop μ-loop
+again c =
+    let put = c .before .before .before .before in
+    let test = put .before .before .before .before in
+    saying-next _ _ _ _ _ _ _ _ _ _ _ _ _ _ _ _ (test .before .loop .inv) (test .loop-test .taken) _ _ _ _ _ _
+    (put .put-literal .ensures) (c .next .ensures)
 
--- src/line.rt:144:1
-same-length : tie.Need-same-length Inv-loop μ-loop
-same-length c = ?
-
--- src/line.rt:144:1
-returns : tie.Need-returns Inv-loop μ-loop
-returns c = ?
+spoken : tie.Need-returns Inv-loop μ-loop
+spoken c = saying-end _ _ _ _ _ _ _ _ _ _ _ _ _ _ _ _ (c .before .loop .inv) (c .loop-test .left)
 
 pub put-own-spec : {M : Type 1} → statement M
 put-own-spec =
@@ -52,11 +61,11 @@ put-own-spec =
     (tie.spec
     Inv-loop
     μ-loop
-    first-requires
-    loop-holds
-    put-literal-requires
-    next-requires
-    loop-less
-    loop-again
-    same-length
-    returns)
+    first
+    begun
+    asked
+    waiting
+    fewer
+    again
+    (λ c. c .before .loop .inv .spoken .drawn .size)
+    spoken)

@@ -6,10 +6,13 @@ use Rattle.origin.proofs.line.put_source.Statement.{statement}
 use Rattle.origin.proofs.line.put_source.Tie as tie
 
 number-fits : tie.Need-cast-put-decimal
-number-fits c = ?
-
-same-length : tie.Need-same-length
-same-length c = ?
+number-fits c =
+    let tab = c .before .before .before .before in
+    let word = tab .before .before .before .before .before in
+    let helper = word .before .before .before .before in
+    let node = helper .before .before .before .before in
+    let clause = node .before .before .before .before .before in
+    record { fits = omega (arith, clause .before .before .before .pre .1 .1) }
 
 all : tie.Need-returns
 all c =
@@ -38,5 +41,5 @@ put-source-spec =
     (λ c κs. search needs)
     number-fits
     (λ c κs. search needs)
-    same-length
+    (λ c. all c .size)
     all)
