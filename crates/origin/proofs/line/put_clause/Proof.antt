@@ -1,53 +1,65 @@
+-- `origin::line::put_clause` meets its contract: what stands in front, the node's own clause, and what stands behind.
+-- Assumes nothing.
+use native.Mathlib.Omega.{arith}
 use borrow.Author.Needs.{needs}
+use Rattle.origin.proofs.Laws.Clauses.{front-voiced, own-start, own-voiced, behind-voiced, clause-spoken}
 use Rattle.origin.proofs.line.put_clause.Statement.{statement}
 use Rattle.origin.proofs.line.put_clause.Tie as tie
-use Rattle.origin.proofs.line.put_clause.Reads as reads
-use Rattle.origin.proofs.line.put_clause.Lts as lts
-use Rattle.origin.proofs.line.is_positive.Reads as is-positive-reads
-use Rattle.origin.proofs.line.put_helper.Reads as put-helper-reads
-use Rattle.origin.proofs.line.put_own.Reads as put-own-reads
 
--- src/line.rt:223:9
-is-positive-requires : tie.Need-is-positive-requires
-is-positive-requires c κs = search needs
+front : tie.Need-put-helper-requires
+front c κs =
+    let sign = c .before .before .before .before in
+    let start = sign .before .before .before .before in
+    let a = start .args in
+    front-voiced (a .table .now .now) (a .clauses .now) (a .literals .now) (a .helpers .now) (a .option-names .now) (a .helper-names .now)
+    (a .options) (a .option-notes .now) (a .helper-notes .now) (a .out .now) (a .spot) (a .pen) (start .pre) _ (sign .is-positive .ensures)
 
--- src/line.rt:224:18
-mul-helper : tie.Need-mul-helper
-mul-helper c = search needs
+own : tie.Need-put-own-requires
+own c κs =
+    let first = c .before .before .before .before .before in
+    let sign = first .before .before .before .before .before in
+    let start = sign .before .before .before .before in
+    let a = start .args in (
+      own-start (a .table .now .now) (a .clauses .now) (a .literals .now) (a .helpers .now) (a .option-names .now)
+          (a .helper-names .now) (a .options) (a .option-notes .now) (a .helper-notes .now) (a .out .now) (a .spot) (a .pen) (start .pre) _
+          (sign .is-positive .ensures),
+      own-voiced (a .table .now .now) (a .clauses .now) (a .literals .now) (a .helpers .now) (a .option-names .now)
+          (a .helper-names .now) (a .options) (a .option-notes .now) (a .helper-notes .now) (a .out .now) (a .spot) (a .pen) (start .pre) _
+          (sign .is-positive .ensures) _ _ _ _ (first .put-helper .ensures),
+    )
 
--- src/line.rt:224:18
-element-copy-out-helper : tie.Need-element-copy-out-helper
-element-copy-out-helper c = search needs
+behind : tie.Need-put-helper-requires-2
+behind c κs =
+    let second = c .before .before .before .before .before in
+    let first = second .before .before .before .before .before .before in
+    let sign = first .before .before .before .before .before in
+    let start = sign .before .before .before .before in
+    let a = start .args in
+    behind-voiced (a .table .now .now) (a .clauses .now) (a .literals .now) (a .helpers .now) (a .option-names .now) (a .helper-names .now)
+    (a .options) (a .option-notes .now) (a .helper-notes .now) (a .out .now) (a .spot) (a .pen) (start .pre) _ (sign .is-positive .ensures)
+    _ _ _ _ (first .put-helper .ensures) _ _ _ _ (second .put-own .ensures)
 
--- src/line.rt:225:9
-put-helper-requires : tie.Need-put-helper-requires
-put-helper-requires c κs = ?
-
--- src/line.rt:237:9
-put-own-requires : tie.Need-put-own-requires
-put-own-requires c κs = ?
-
--- src/line.rt:253:5
-put-helper-requires-2 : tie.Need-put-helper-requires-2
-put-helper-requires-2 c κs = ?
-
--- src/line.rt:200:1
-same-length : tie.Need-same-length
-same-length c = search needs
-
--- src/line.rt:200:1
-returns : tie.Need-returns
-returns c = ?
+spoken : tie.Need-returns
+spoken c =
+    let third = c .before .before in
+    let second = third .before .before .before .before .before .before in
+    let first = second .before .before .before .before .before .before in
+    let sign = first .before .before .before .before .before in
+    let start = sign .before .before .before .before in
+    let a = start .args in
+    clause-spoken (a .table .now .now) (a .clauses .now) (a .literals .now) (a .helpers .now) (a .option-names .now) (a .helper-names .now)
+    (a .options) (a .option-notes .now) (a .helper-notes .now) (a .out .now) (a .spot) (a .pen) (start .pre) _ (sign .is-positive .ensures)
+    _ _ _ _ (first .put-helper .ensures) _ _ _ _ (second .put-own .ensures) _ _ _ _ (third .put-helper2 .ensures)
 
 pub put-clause-spec : {M : Type 1} → statement M
 put-clause-spec =
     tie.close
     (tie.spec
-    is-positive-requires
-    mul-helper
-    element-copy-out-helper
-    put-helper-requires
-    put-own-requires
-    put-helper-requires-2
-    same-length
-    returns)
+    (λ c κs. search needs)
+    (λ c. search needs)
+    (λ c. search needs)
+    front
+    own
+    behind
+    (λ c. search needs)
+    spoken)

@@ -1,53 +1,40 @@
+-- `origin::line::put_line` meets its contract: the first fields, the names, and a newline. Assumes nothing.
 use borrow.Author.Needs.{needs}
+use Rattle.origin.proofs.Laws.Lines.{names-spotted, line-spoken}
 use Rattle.origin.proofs.line.put_line.Statement.{statement}
 use Rattle.origin.proofs.line.put_line.Tie as tie
-use Rattle.origin.proofs.line.put_line.Reads as reads
-use Rattle.origin.proofs.line.put_line.Lts as lts
-use Rattle.origin.proofs.line.put_clause.Reads as put-clause-reads
-use Rattle.origin.proofs.line.put_source.Reads as put-source-reads
-use Rattle.origin.proofs.pen.put.Reads as put-reads
 
--- src/line.rt:291:42
-mul-put-source : tie.Need-mul-put-source
-mul-put-source c = search needs
+spotted : tie.Need-put-clause-requires
+spotted c κs =
+    let source = c .before .before .before .before .before in
+    let toward-start = source .before .before .before .before in
+    let start = toward-start .before .before in
+    let a = start .args in
+    names-spotted (a .table .now .now) (a .clauses .now) (a .literals .now) (a .helpers .now) (a .option-names .now) (a .helper-names .now)
+    (a .option-notes .now) (a .helper-notes .now) (a .out .now) (a .options) (a .spot) (a .pen) (start .pre) (a .k) _ _
+    (source .put-source .ensures)
 
--- src/line.rt:291:42
-element-copy-out-put-source : tie.Need-element-copy-out-put-source
-element-copy-out-put-source c = search needs
-
--- src/line.rt:291:9
-put-source-requires : tie.Need-put-source-requires
-put-source-requires c κs = search needs
-
--- src/line.rt:292:9
-put-clause-requires : tie.Need-put-clause-requires
-put-clause-requires c κs = ?
-
--- src/line.rt:306:21
-slice-aggregate-put : tie.Need-slice-aggregate-put
-slice-aggregate-put c = search needs
-
--- src/line.rt:306:5
-put-requires : tie.Need-put-requires
-put-requires c κs = search needs
-
--- src/line.rt:268:1
-same-length : tie.Need-same-length
-same-length c = search needs
-
--- src/line.rt:268:1
-returns : tie.Need-returns
-returns c = ?
+spoken : tie.Need-returns
+spoken c =
+    let end = c .before .before in
+    let names = end .before .before .before .before .before in
+    let source = names .before .before .before .before .before .before in
+    let toward-start = source .before .before .before .before in
+    let start = toward-start .before .before in
+    let a = start .args in
+    line-spoken (a .table .now .now) (a .clauses .now) (a .literals .now) (a .helpers .now) (a .option-names .now) (a .helper-names .now)
+    (a .option-notes .now) (a .helper-notes .now) (a .out .now) (a .options) (a .spot) (a .pen) (start .pre) (a .k) _ _
+    (source .put-source .ensures) _ _ _ _ _ _ (names .put-clause .ensures) (end .put .ensures)
 
 pub put-line-spec : {M : Type 1} → statement M
 put-line-spec =
     tie.close
     (tie.spec
-    mul-put-source
-    element-copy-out-put-source
-    put-source-requires
-    put-clause-requires
-    slice-aggregate-put
-    put-requires
-    same-length
-    returns)
+    (λ c. search needs)
+    (λ c. search needs)
+    (λ c κs. search needs)
+    spotted
+    (λ c. search needs)
+    (λ c κs. search needs)
+    (λ c. search needs)
+    spoken)

@@ -1,61 +1,84 @@
+-- `origin::line::put_lines` meets its contract. The loop's invariant: the lines before clause k are put, and it is known where it stands.
+-- The measure is the number of clauses that are left. Assumes nothing.
+use Prim.Native.Nat.{_-_}
+use native.Mathlib.Omega.{arith}
+use Rattle.origin.specs.Inner.Lines.{Tellable}
+use Rattle.origin.proofs.Laws.Lines.{Telling, telling-start, telling-sought, telling-end, telling-spotted, telling-few, telling-next}
+use Rattle.origin.proofs.Laws.Sources.{some-nodes}
 use Rattle.origin.proofs.line.put_lines.Statement.{statement}
 use Rattle.origin.proofs.line.put_lines.Tie as tie
-use Rattle.origin.proofs.line.put_lines.Reads as reads
-use Rattle.origin.proofs.line.put_lines.Lts as lts
-use Rattle.origin.proofs.line.put_line.Reads as put-line-reads
-use Rattle.origin.proofs.part.find.Reads as find-reads
 
 abbrev Inv-loop : tie.InvT-loop
-Inv-loop table marks set clauses literals helpers option-names helper-names option-notes₀ helper-notes₀ options from end out₀ writing pen₀ spot₀ k₀ option-notes helper-notes out pen spot k =
-    ?
+Inv-loop table marks set clauses literals helpers option-names helper-names option-notes₀ helper-notes₀ options from end out₀ writing
+    pen₀ spot₀ k₀ option-notes helper-notes out pen spot k =
+    (w : Tellable (table .now) options marks set clauses literals helpers option-names helper-names from end)
+    × Telling (table .now) options marks set clauses literals helpers option-names helper-names from end w out₀ pen₀
+    option-notes helper-notes out pen spot k
 
 abbrev μ-loop : tie.MeasureT-loop
-μ-loop table marks set clauses literals helpers option-names helper-names option-notes₀ helper-notes₀ options from end out₀ writing pen₀ spot₀ k₀ option-notes helper-notes out pen spot k =
-    ?
+μ-loop table marks set clauses literals helpers option-names helper-names option-notes₀ helper-notes₀ options from end out₀ writing
+    pen₀ spot₀ k₀ option-notes helper-notes out pen spot k = end - k
 
--- src/line.rt:342:15
-sub-t23 : tie.Need-sub-t23 Inv-loop μ-loop
-sub-t23 c = ?
+some : tie.Need-sub-t23 Inv-loop μ-loop
+some c = let start = c .before .before .before .before in omega (arith, some-nodes _ _ _ _ _ _ _ (start .pre .0 .ground))
 
--- src/line.rt:346:5
-loop-holds : tie.Need-loop-holds Inv-loop μ-loop
-loop-holds c = ?
+begun : tie.Need-loop-holds Inv-loop μ-loop
+begun c =
+    let start = c .before .before .before .before in
+    (start .pre .0, telling-start _ _ _ _ _ _ _ _ _ _ _ (start .pre .0) _ _ _ _ (start .pre .1) (omega arith))
 
--- src/line.rt:347:13
-find-requires : tie.Need-find-requires Inv-loop μ-loop
-find-requires c κs = ?
+sought : tie.Need-find-requires Inv-loop μ-loop
+sought c κs =
+    let loop = c .before .loop in
+    telling-sought _ _ _ _ _ _ _ _ _ _ _ (loop .inv .0) _ _ _ _ _ _ _ _ (loop .inv .1) (c .loop-test .taken)
 
--- src/line.rt:358:13
-cast-put-line : tie.Need-cast-put-line Inv-loop μ-loop
-cast-put-line c = ?
+number-fits : tie.Need-cast-put-line Inv-loop μ-loop
+number-fits c =
+    let find = c .before .before in
+    let loop = find .before .before .loop in
+    let few = telling-few _ _ _ _ _ _ _ _ _ _ _ (loop .inv .0) _ _ _ _ _ _ _ _ (loop .inv .1) _ (find .find .ensures)
+    (find .before .loop-test .taken) in
+    record { fits = omega (arith, few .0) }
 
--- src/line.rt:348:9
-put-line-requires : tie.Need-put-line-requires Inv-loop μ-loop
-put-line-requires c κs = ?
+spotted : tie.Need-put-line-requires Inv-loop μ-loop
+spotted c κs =
+    let find = c .before .before .before in
+    let loop = find .before .before .loop in
+    telling-spotted _ _ _ _ _ _ _ _ _ _ _ (loop .inv .0) _ _ _ _ _ _ _ _ (loop .inv .1) _ (find .find .ensures)
+    (find .before .loop-test .taken)
 
--- src/line.rt:367:21
-add-t30 : tie.Need-add-t30 Inv-loop μ-loop
-add-t30 c = ?
+number-more : tie.Need-add-t30 Inv-loop μ-loop
+number-more c =
+    let put = c .before .before .before in
+    let find = put .before .before .before .before in
+    let loop = find .before .before .loop in
+    let few = telling-few _ _ _ _ _ _ _ _ _ _ _ (loop .inv .0) _ _ _ _ _ _ _ _ (loop .inv .1) _ (find .find .ensures)
+    (find .before .loop-test .taken) in
+    record { fits = omega (arith, few .1) }
 
--- src/line.rt:369:9
-add-k : tie.Need-add-k Inv-loop μ-loop
-add-k c = ?
+k-more : tie.Need-add-k Inv-loop μ-loop
+k-more c =
+    let put = c .before .before .before in
+    let find = put .before .before .before .before in
+    let loop = find .before .before .loop in
+    let few = telling-few _ _ _ _ _ _ _ _ _ _ _ (loop .inv .0) _ _ _ _ _ _ _ _ (loop .inv .1) _ (find .find .ensures)
+    (find .before .loop-test .taken) in
+    record { fits = omega (arith, few .0) }
 
--- src/line.rt:346:5
-loop-less : tie.Need-loop-less Inv-loop μ-loop
-loop-less c = ?
+again : tie.Need-loop-again Inv-loop μ-loop
+again c =
+    let put = c .before .before .before in
+    let find = put .before .before .before .before in
+    let loop = find .before .before .loop in (
+      loop .inv .0,
+      telling-next _ _ _ _ _ _ _ _ _ _ _ (loop .inv .0) _ _ _ _ _ _ _ _ (loop .inv .1) _ (find .find .ensures)
+          (find .before .loop-test .taken) _ _ _ _ (put .put-line .ensures),
+    )
 
--- src/line.rt:346:5
-loop-again : tie.Need-loop-again Inv-loop μ-loop
-loop-again c = ?
-
--- src/line.rt:310:1
-same-length : tie.Need-same-length Inv-loop μ-loop
-same-length c = ?
-
--- src/line.rt:310:1
-returns : tie.Need-returns Inv-loop μ-loop
-returns c = ?
+spoken : tie.Need-returns Inv-loop μ-loop
+spoken c =
+    let loop = c .before .loop in
+    telling-end _ _ _ _ _ _ _ _ _ _ _ (loop .inv .0) _ _ _ _ _ _ _ _ (loop .inv .1) (c .loop-test .left)
 
 pub put-lines-spec : {M : Type 1} → statement M
 put-lines-spec =
@@ -63,14 +86,14 @@ put-lines-spec =
     (tie.spec
     Inv-loop
     μ-loop
-    sub-t23
-    loop-holds
-    find-requires
-    cast-put-line
-    put-line-requires
-    add-t30
-    add-k
-    loop-less
-    loop-again
-    same-length
-    returns)
+    some
+    begun
+    sought
+    number-fits
+    spotted
+    number-more
+    k-more
+    (λ c. omega arith)
+    again
+    (λ c. c .before .loop .inv .1 .spoken .drawn .size)
+    spoken)
