@@ -28,8 +28,8 @@ use Rattle.clausal.proofs.Truths.{truth-options}
 use Rattle.clausebytes.specs.Words as right
 use Rattle.clausebytes.specs.Words.{Within, Right}
 use Rattle.clausebytes.proofs.Encoded.{clauses-of-bytes, not-wrong-of-right}
-use Rattle.clausal.specs.Calls.{ceilings}
 use Rattle.parts.proofs.Laws.Helpers.{below-le}
+use Rattle.convert.proofs.Laws.Fitted.{sizes-below}
 use Rattle.claims.specs.Calls.{Guard, nodes, names}
 use Rattle.claims.specs.Claims.{Means, decoded}
 use Rattle.claims.proofs.Answered.{not-both}
@@ -44,16 +44,6 @@ module _ (u : Renaming) (ns : List Node) (n : ℕ) (range : (x : ℕ) → Origin
       clause : {c : Clause} → Every (λ l. Origin u ns (l .variable)) c → Within n cs → Within n (c ∷ cs)
       clause lists.none w = right.closed w
       clause (lists.more {x = l} o g) w = let r = range (l .variable) o in right.literal (r .0) (r .1) (clause g w)
-
--- below both ceilings
-sizes-below : (x : Size) → refuses (ceilings x) ≡ false → (x .clauses < clauseCeiling) × (x .literals < literalCeiling)
-sizes-below x e = go (ltb (x .clauses) clauseCeiling) refl (ltb (x .literals) literalCeiling) refl e
-  where
-    go : (a : Bool) → ltb (x .clauses) clauseCeiling ≡ a → (b : Bool) → ltb (x .literals) literalCeiling ≡ b
-        → refuses (cond a (cond b (Accepted 0 0) Literals) Clauses) ≡ false → (x .clauses < clauseCeiling) × (x .literals < literalCeiling)
-    go true p true q f = (ltb-true (x .clauses) clauseCeiling p, ltb-true (x .literals) literalCeiling q)
-    go true p false q f = not-both (sym f)
-    go false p b q f = not-both (sym f)
 
 module _ (g : Guard) (before : List ℕ) (w : Wrote (List ℕ)) (p : Passed g before w) where
   abbrev u : Renaming

@@ -4,6 +4,7 @@ pub mod Firsts
 pub mod Lines
 pub mod Opens
 pub mod Pens
+pub mod Shown
 pub mod Sources
 pub mod Spoken
 pub mod Spots

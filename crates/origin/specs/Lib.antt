@@ -1,3 +1,4 @@
 -- Where clauses come from.
 pub mod Origins
+pub mod Calls
 pub mod Inner

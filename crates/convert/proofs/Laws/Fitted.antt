@@ -36,6 +36,12 @@ case x room = go (ltb (x .clauses) clauseCeiling) refl (ltb (x .literals) litera
     go true p true q true r = no-room (ltb-true _ _ p) (ltb-true _ _ q) (ltb-true _ _ r)
     go true p true q false r = fits (ltb-true _ _ p) (ltb-true _ _ q) (ltb-false _ _ r)
 
+over-clauses : (x : Size) → clauseCeiling ≤ x .clauses → ceilings x ≡ Clauses
+over-clauses x h = rw (le-ltb (x .clauses) clauseCeiling h)
+
+over-literals : (x : Size) → x .clauses < clauseCeiling → literalCeiling ≤ x .literals → ceilings x ≡ Literals
+over-literals x h g = rw (lt-ltb (x .clauses) clauseCeiling h, le-ltb (x .literals) literalCeiling g)
+
 refused-clauses : (x : Size) (room : ℕ) → clauseCeiling ≤ x .clauses → fitted x room ≡ Clauses
 refused-clauses x room h = rw (le-ltb (x .clauses) clauseCeiling h)
 
@@ -61,6 +67,33 @@ fitted-shown x room = go (case x room)
     go (many-literals h g) = refused-literals (shown x) room (omega arith) (omega (arith, below h)) ∙ sym (refused-literals x room h g)
     go (no-room h g r) = ap (λ (y : Size). fitted y room) (shown-below x h g)
     go (fits h g r) = ap (λ (y : Size). fitted y room) (shown-below x h g)
+
+-- the same of refusals 5 and 6 alone
+pub ceilings-shown : (x : Size) → ceilings (shown x) ≡ ceilings x
+ceilings-shown x = go (case x 0)
+  where
+    below : x .clauses < clauseCeiling → shown x .literals ≡ cap literalCeiling (x .literals)
+    below h = ap (λ (b : Bool). cond b (cap literalCeiling (x .literals)) literalCeiling) (lt-ltb (x .clauses) clauseCeiling h)
+
+    go : Case x 0 → ceilings (shown x) ≡ ceilings x
+    go (many-clauses h) = over-clauses (shown x) (omega arith) ∙ sym (over-clauses x h)
+    go (many-literals h g) = over-literals (shown x) (omega arith) (omega (arith, below h)) ∙ sym (over-literals x h g)
+    go (no-room h g r) = ap ceilings (shown-below x h g)
+    go (fits h g r) = ap ceilings (shown-below x h g)
+
+-- what passing refusals 5 and 6 says
+pub sizes-below : (x : Size) → refuses (ceilings x) ≡ false
+    → (x .clauses < clauseCeiling) × (x .literals < literalCeiling) × (shown x ≡ x)
+sizes-below x e = go (case x 0)
+  where
+    never : (a : Answer) → ceilings x ≡ a → refuses a ≡ true → ⊥
+    never a f g = let h = ap refuses f in let z : _≡_ {A = ℕ} 0 1 = cc in omega arith
+
+    go : Case x 0 → (x .clauses < clauseCeiling) × (x .literals < literalCeiling) × (shown x ≡ x)
+    go (many-clauses h) = absurd (never Clauses (over-clauses x h) refl)
+    go (many-literals h g) = absurd (never Literals (over-literals x h g) refl)
+    go (no-room h g r) = (h, g, shown-below x h g)
+    go (fits h g r) = (h, g, shown-below x h g)
 
 -- what an acceptance says
 pub record Below (x : Size) (n : ℕ) : Type 0 where

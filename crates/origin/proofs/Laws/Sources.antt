@@ -371,8 +371,13 @@ module _ (t : List ℕ) (v : ℕ) (marks s : List ℕ) (cs ls : List (List ℕ))
 
     own-length : m < length (ownList name ns i (signOf d))
     own-length =
-        omega (arith, own, inside-part, ap length (found .content),
-        length-map (ownList name ns i (signOf d)) (around (name i) (signOf d)))
+        omega (
+          arith,
+          own,
+          inside-part,
+          ap length (found .content),
+          length-map (ownList name ns i (signOf d)) (around (name i) (signOf d)),
+        )
 
     pub spot-clause : getD (outputOf u ns) k [] ≡ spotClause name ns x
     spot-clause =
@@ -388,6 +393,11 @@ module _ (t : List ℕ) (v : ℕ) (marks s : List ℕ) (cs ls : List (List ℕ))
     pub spot-own : (m < length (ownList name ns i (signOf d))) × (length (ownList name ns i (signOf d)) < clauseCeiling)
     spot-own = (
       own-length,
-      omega (arith, short-part d i inside, own, ap length (found .content),
-          length-map (ownList name ns i (signOf d)) (around (name i) (signOf d))),
+      omega (
+        arith,
+        short-part d i inside,
+        own,
+        ap length (found .content),
+        length-map (ownList name ns i (signOf d)) (around (name i) (signOf d)),
+      ),
     )
