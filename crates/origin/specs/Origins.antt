@@ -1,14 +1,15 @@
--- R19.1 to R19.6: where a clause of the output comes from, and the line that says so.
+-- R19.1 to R19.6, R19.16: where a clause of the output comes from, and the line that says so.
 -- Assumes nothing: these are definitions.
 use mathlib.Core.Bool.{cond}
 use mathlib.Core.List.{List, [], _∷_, _++_, map}
-use Prim.Native.Nat.{ℕ, zero, suc}
-use lib.ListN.{getD}
+use mathlib.Core.Path.{_≡_}
+use Prim.Native.Nat.{ℕ, zero, suc, _+_, _<_}
+use lib.ListN.{length, getD}
 use Rattle.formula.specs.declared.node.Node.{Node}
 use Rattle.text.specs.Texts.{decimal, joined}
 use Rattle.clausal.specs.Clauses.{clauses, Literal, Clause, Renaming}
 use Rattle.clausal.specs.Output.{Direction, root, down, up, Part, partsOf, outputOf}
-use Rattle.clausal.specs.Places.{Place, placeIn, countsOf}
+use Rattle.clausal.specs.Places.{Place, placeIn, startOf, countsOf}
 
 -- R19.2: the origin node, its helper or 0, the direction, and the clause's number in that part
 pub record Source : Type 0 where
@@ -33,6 +34,15 @@ sourceAt ps p = record {
 -- R19.1: where clause k of the output comes from
 abbrev pub sourceOf : Renaming → List Node → ℕ → Source
 sourceOf u ns k = sourceAt (partsOf clauses u ns) (placeIn (countsOf (partsOf clauses u ns)) k)
+
+-- R19.16: clause `number` of a part with this origin and this direction is clause k of the output
+pub record Comes (u : Renaming) (ns : List Node) (k node : ℕ) (way : Direction) (m : ℕ) : Type 0 where
+  pub part : ℕ
+  pub there : part < length (partsOf clauses u ns)
+  pub origin : partIn (partsOf clauses u ns) part .origin ≡ node
+  pub direction : partIn (partsOf clauses u ns) part .direction ≡ way
+  pub number : m < length (partIn (partsOf clauses u ns) part .content)
+  pub place : startOf (countsOf (partsOf clauses u ns)) part + m ≡ k
 
 -- R19.3: `root`, `down` for helper to body, `up` for the reverse
 abbrev pub directionWord : Direction → List ℕ
