@@ -51,6 +51,37 @@ mod entry {
             answer: *mut u8,
             answer_len: usize,
         ) -> u32;
+        pub fn simbolufa_origin(
+            table: *const u8,
+            table_len: usize,
+            options: u32,
+            set: *const u8,
+            set_len: usize,
+            clause: u32,
+            option_names: *const u8,
+            option_names_len: usize,
+            helper_names: *const u8,
+            helper_names_len: usize,
+            line: *mut u8,
+            line_len: usize,
+            answer: *mut u8,
+            answer_len: usize,
+        ) -> u32;
+        pub fn simbolufa_origins(
+            table: *const u8,
+            table_len: usize,
+            options: u32,
+            set: *const u8,
+            set_len: usize,
+            option_names: *const u8,
+            option_names_len: usize,
+            helper_names: *const u8,
+            helper_names_len: usize,
+            lines: *mut u8,
+            lines_len: usize,
+            answer: *mut u8,
+            answer_len: usize,
+        ) -> u32;
         pub fn simbolufa_write_dimacs(
             clauses: *const u8,
             clauses_len: usize,
@@ -156,6 +187,59 @@ pub fn convert_after(
             set.len(),
             out.as_mut_ptr(),
             out.len(),
+            answer,
+            answer_len,
+        )
+    })
+}
+
+/// A table with its options, a set and the names of options and helpers.
+#[derive(Clone, Copy)]
+pub struct Named<'a> {
+    pub table: &'a [u8],
+    pub options: u32,
+    pub set: &'a [u8],
+    pub option_names: &'a [u8],
+    pub helper_names: &'a [u8],
+}
+
+/// Variables and clauses. The line of one clause is written.
+pub fn origin(named: Named, clause: u32, line: &mut [u8]) -> [u32; 2] {
+    accepted(|answer, answer_len| unsafe {
+        entry::simbolufa_origin(
+            named.table.as_ptr(),
+            named.table.len(),
+            named.options,
+            named.set.as_ptr(),
+            named.set.len(),
+            clause,
+            named.option_names.as_ptr(),
+            named.option_names.len(),
+            named.helper_names.as_ptr(),
+            named.helper_names.len(),
+            line.as_mut_ptr(),
+            line.len(),
+            answer,
+            answer_len,
+        )
+    })
+}
+
+/// Variables and clauses. The lines of all clauses are written.
+pub fn origins(named: Named, lines: &mut [u8]) -> [u32; 2] {
+    accepted(|answer, answer_len| unsafe {
+        entry::simbolufa_origins(
+            named.table.as_ptr(),
+            named.table.len(),
+            named.options,
+            named.set.as_ptr(),
+            named.set.len(),
+            named.option_names.as_ptr(),
+            named.option_names.len(),
+            named.helper_names.as_ptr(),
+            named.helper_names.len(),
+            lines.as_mut_ptr(),
+            lines.len(),
             answer,
             answer_len,
         )

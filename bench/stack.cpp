@@ -148,6 +148,21 @@ uint32_t convert_after(const Bytes &table)
                                    out.size(), answer.data(), answer.size());
 }
 
+// The one option's name. Nothing is renamed, so no helper has one.
+const Bytes names = {'A', '\n'};
+
+uint32_t origin(const Bytes &table)
+{
+    return simbolufa_origin(table.data(), table.size(), 1, empty_set.data(), table.size() / 5, 0, names.data(), names.size(),
+                            nullptr, 0, out.data(), out.size(), answer.data(), answer.size());
+}
+
+uint32_t origins(const Bytes &table)
+{
+    return simbolufa_origins(table.data(), table.size(), 1, empty_set.data(), table.size() / 5, names.data(), names.size(),
+                             nullptr, 0, out.data(), out.size(), answer.data(), answer.size());
+}
+
 size_t measured_with(uint32_t (*entry)(const Bytes &), const Bytes &table)
 {
     return measured([&] { return entry(table); });
@@ -159,21 +174,37 @@ int main()
 {
     constexpr size_t half = most_nodes / 2;
     std::printf("the stack below the caller, in bytes; nothing called: %zu\n", measured([] { return 0; }));
-    std::printf("  %-38s  check  measure  choose  convert  convert  convert,     convert_after\n", "tables of nested nodes");
-    std::printf("  %-38s  %5zu  %7zu  %6zu  %7zu  %7zu  a node more  %13zu\n", "", most_nodes, most_nodes, most_nodes, half,
-                most_nodes, most_nodes);
+    std::printf("  %-38s  check  measure  choose  convert  convert  convert,     convert_after  origin  origins\n",
+                "tables of nested nodes");
+    std::printf("  %-38s  %5zu  %7zu  %6zu  %7zu  %7zu  a node more  %13zu  %6zu  %7zu\n", "", most_nodes, most_nodes,
+                most_nodes, half, most_nodes, most_nodes, most_nodes, most_nodes);
     for (const Chain &chain : chains) {
         Bytes less = table_of(chain, half), more = table_of(chain, most_nodes);
         size_t shallow = measured_with(convert, less), deep = measured_with(convert, more);
-        std::printf("  %-38s  %5zu  %7zu  %6zu  %7zu  %7zu  %11.1f  %13zu\n", chain.name.c_str(), measured_with(check, more),
-                    measured_with(measure, more), measured_with(choose, more), shallow, deep,
-                    (double(deep) - double(shallow)) / half, measured_with(convert_after, more));
+        std::printf("  %-38s  %5zu  %7zu  %6zu  %7zu  %7zu  %11.1f  %13zu  %6zu  %7zu\n", chain.name.c_str(),
+                    measured_with(check, more), measured_with(measure, more), measured_with(choose, more), shallow, deep,
+                    (double(deep) - double(shallow)) / half, measured_with(convert_after, more),
+                    measured_with(origin, more), measured_with(origins, more));
     }
     Bytes leaf;
     push(leaf, 2, 1, 0);
-    std::printf("  %-38s  %5zu  %7zu  %6zu  %7zu  %7s  %11s  %13zu\n", "one symbol", measured_with(check, leaf),
+    std::printf("  %-38s  %5zu  %7zu  %6zu  %7zu  %7s  %11s  %13zu  %6zu  %7zu\n", "one symbol", measured_with(check, leaf),
                 measured_with(measure, leaf), measured_with(choose, leaf), measured_with(convert, leaf), "", "",
-                measured_with(convert_after, leaf));
+                measured_with(convert_after, leaf), measured_with(origin, leaf), measured_with(origins, leaf));
+    // As many names as there can be.
+    constexpr uint32_t most_options = 32000;
+    Bytes many;
+    for (uint32_t option = 0; option < most_options; option++)
+        many.insert(many.end(), names.begin(), names.end());
+    size_t one = measured([&] {
+        return simbolufa_origin(leaf.data(), leaf.size(), most_options, empty_set.data(), 1, 0, many.data(), many.size(), nullptr,
+                                0, out.data(), out.size(), answer.data(), answer.size());
+    });
+    size_t all = measured([&] {
+        return simbolufa_origins(leaf.data(), leaf.size(), most_options, empty_set.data(), 1, many.data(), many.size(), nullptr,
+                                 0, out.data(), out.size(), answer.data(), answer.size());
+    });
+    std::printf("  one symbol of %u options: origin %zu, origins %zu\n", most_options, one, all);
 
     // A clause of the literals -1 and 40,000, over and over.
     constexpr size_t clause_count = 10000;

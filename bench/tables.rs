@@ -1,7 +1,7 @@
 //! Tables to time: shapes that grow, and real guards.
 
 use reference::node_file;
-use std::path::Path;
+use std::path::PathBuf;
 
 pub const MOST_NODES: usize = 1_024;
 /// The allowance for which sets are chosen.
@@ -103,9 +103,24 @@ pub fn sample() -> Vec<Guard> {
     guards_of(include_str!("../tests/corpus/guards.txt"))
 }
 
-/// The guards of the folder that the program was given, where it was given one.
+/// The folder that the program was given, where it was given one.
+pub fn given_folder() -> Option<PathBuf> {
+    std::env::args().nth(1).map(PathBuf::from)
+}
+
+/// The guards of that folder.
 pub fn given() -> Option<Vec<Guard>> {
-    let folder = std::env::args().nth(1)?;
-    let text = std::fs::read_to_string(Path::new(&folder).join("guards.txt"));
+    let text = std::fs::read_to_string(given_folder()?.join("guards.txt"));
     Some(guards_of(&text.expect("the folder has guards.txt")))
+}
+
+/// The project of each guard, in the order of an index.
+pub fn projects_of(index: &str) -> Vec<String> {
+    let mut lines = index.lines().map(|line| line.split('\t'));
+    let mut columns = lines.next().expect("the first line names the columns");
+    let at = columns.position(|name| name == "project");
+    let at = at.expect("the index has a column of projects");
+    lines
+        .map(|mut fields| fields.nth(at).expect("each line has it").to_string())
+        .collect()
 }

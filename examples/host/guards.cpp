@@ -131,7 +131,7 @@ void take_set(const fs::path &path, const fs::path &index, GuardTaker &taker)
     uint64_t line = 1;
     for (const IndexRow &row : rows) {
         const uint64_t newlines = read_guard(set, row.length, kept);
-        taker.take({std::string(row.id), std::string(row.source), file, line, kept});
+        taker.take({std::string(row.id), std::string(row.source), file, line, kept, std::string(row.project)});
         line += newlines;
     }
 }
@@ -203,8 +203,8 @@ bool is_left_out(const fs::path &path, GuardTaker &taker)
         taker.miss(path, "a linked folder is not walked");
         return true;
     }
-    // An index is read with its set.
-    return path.filename() == index_name && is_indexed(path.parent_path());
+    // An index is read with its set, and names with the guards of their project.
+    return (path.filename() == index_name && is_indexed(path.parent_path())) || taker.is_names(path);
 }
 
 // Takes what is no folder.

@@ -19,6 +19,8 @@ struct Guard {
     std::string file;
     uint64_t line;
     std::string_view text;
+    // The project, by the index. Empty where there is none.
+    std::string project = {};
 };
 
 // Takes what is found. A text is gone after the call.
@@ -30,6 +32,8 @@ public:
     virtual void miss(const std::filesystem::path &path, const std::string &why) = 0;
     // A hidden file or folder, or an editor's backup, is no guard.
     virtual void pass_over(const std::filesystem::path &path) = 0;
+    // Whether a file was read as names of options. A node file has tabs and a name has none, so it has no guard.
+    virtual bool is_names(const std::filesystem::path &path) const = 0;
 };
 
 // Finds the guards at a path, and what cannot be read. What cannot be read keeps nothing else from being read.

@@ -91,6 +91,8 @@ std::vector<IndexRow> read_index(std::string_view text, uint64_t set_size)
     const size_t offset = columns.at("offset");
     const size_t length = columns.at("length");
     const auto source = columns.find("file:line");
+    const auto project = columns.find("project");
+    const std::string_view none;
     std::vector<IndexRow> rows;
     uint64_t start = 0;
     for (size_t line = 2; !text.empty(); line++) {
@@ -103,7 +105,7 @@ std::vector<IndexRow> read_index(std::string_view text, uint64_t set_size)
             throw fault_in(line, " does not begin where the guard before it ends");
         if (!count || *count > set_size - start)
             throw fault_in(line, " goes past the end of the guards");
-        rows.push_back({fields[id], source ? fields[*source] : std::string_view(), *count});
+        rows.push_back({fields[id], source ? fields[*source] : none, project ? fields[*project] : none, *count});
         start += *count;
     }
     if (rows.empty())

@@ -12,6 +12,8 @@ struct IndexRow {
     std::string_view id;
     // A file and a line. Empty where the index has no such column.
     std::string_view source;
+    // Empty where the index has no such column.
+    std::string_view project;
     uint64_t length;
 };
 

@@ -2,7 +2,9 @@
 
 #include "guards.hpp"
 #include "node_file.hpp"
+#include "origins.hpp"
 #include "report.hpp"
+#include "shown.hpp"
 #include "signals.hpp"
 #include "solver.hpp"
 
@@ -17,11 +19,15 @@
 #include <chrono>
 #include <cstdio>
 #include <exception>
+#include <filesystem>
 #include <new>
+#include <optional>
 #include <string>
 #include <string_view>
 #include <system_error>
 #include <vector>
+
+namespace fs = std::filesystem;
 
 namespace {
 
@@ -29,16 +35,29 @@ constexpr uint32_t allowance = 1024;
 constexpr size_t most_nodes = 1024;
 constexpr int bad_usage = 2;
 
-constexpr char usage[] = "nightly [--quiet] [--times] [--conflicts N] PATH...\n"
+constexpr char usage[] = "nightly [--quiet] [--times] [--conflicts N] [--origins FOLDER [--names NAMES]] PATH...\n"
                          "\n"
                          "Says which branches can never be compiled. A PATH is a node file, a file of several node\n"
                          "files, or a folder of such files. guards.txt with index.tsv beside it is read by its index.\n"
                          "Hidden files and backups in a folder are passed over: `.x`, `x~`, `#x#`.\n"
                          "\n"
-                         "  --quiet         only dead branches, refusals and what is not decided or not read\n"
-                         "  --times         how long each step took\n"
-                         "  --conflicts N   when the solver gives up on a guard, 1000000 if it is not given\n"
-                         "  --help          this text\n"
+                         "  --quiet            only dead branches, refusals, and what is not decided, read, written or\n"
+                         "                     named\n"
+                         "  --times            how long each step took\n"
+                         "  --conflicts N      when the solver gives up on a guard, 1000000 if it is not given\n"
+                         "  --origins FOLDER   a file for each guard that tells where its clauses come from\n"
+                         "  --names NAMES      the names of options in these files\n"
+                         "  --help             this text\n"
+                         "\n"
+                         "FOLDER is made, or is there and empty. It lies in no PATH. A guard's file is its name and .tsv,\n"
+                         "with % and two hex digits for each byte but letters, digits and _ - . #. Each line of it is a\n"
+                         "clause that the solver was given: number, origin node, helper or 0, `root`, `down` or `up`,\n"
+                         "number in that part, literals. A helper is called after its node, [7]. Where an option has that\n"
+                         "name, or that name behind a !, the helper is [[7]], and so on.\n"
+                         "\n"
+                         "NAMES is a folder of files PROJECT.txt, or one file for all guards. Line k is the name of option\n"
+                         "k. Without --names it is the folder names beside the index, whose column `project` tells the\n"
+                         "project. Where a project has no such file, options have their numbers as names.\n"
                          "\n"
                          "Dead branches go to standard output, one a line: name, `never compiled`, source.\n"
                          "Refusals go to standard error, one a line: name, `refused`, number, place, source, FILE:LINE,\n"
@@ -48,8 +67,8 @@ constexpr char usage[] = "nightly [--quiet] [--times] [--conflicts N] PATH...\n"
 
 constexpr char exits[] = "\n"
                          "Exit status: 0 all guards converted and decided, 1 a guard refused or undecided,\n"
-                         "2 bad usage, a path not read or a line not written, 128 and the number of a signal that\n"
-                         "ended the pass.\n";
+                         "2 bad usage, a path not read or a line not written, a guard without its file of origins,\n"
+                         "128 and the number of a signal that ended the pass.\n";
 
 // The refusals that a guard can meet here, in the order in which they are looked at.
 constexpr uint32_t refusals[] = {SIMBOLUFA_REFUSED_NODE_FILE, SIMBOLUFA_REFUSED_TABLE_LENGTH, SIMBOLUFA_REFUSED_OPTIONS,
@@ -70,6 +89,9 @@ struct Command {
     bool times = false;
     bool help = false;
     int conflicts = 1000000;
+    // Empty where they are not given.
+    fs::path origins;
+    fs::path names;
     std::vector<const char *> paths;
 };
 
@@ -94,7 +116,12 @@ private:
 // threads gives them as much.
 class Pass : public GuardTaker {
 public:
-    Pass(Report &report, int conflicts) : report(report), solver(conflicts) {}
+    // Without origins no file of them is written.
+    Pass(Report &report, int conflicts, Origins *origins) : report(report), origins(origins), solver(conflicts)
+    {
+        if (origins != nullptr)
+            spent.origins.emplace();
+    }
 
     void take(const Guard &guard) override
     {
@@ -106,9 +133,11 @@ public:
         }
     }
 
-    void miss(const std::filesystem::path &path, const std::string &why) override { report.missed(path.string(), why); }
+    void miss(const fs::path &path, const std::string &why) override { report.missed(path.string(), why); }
 
-    void pass_over(const std::filesystem::path &) override { report.passed_over(); }
+    void pass_over(const fs::path &) override { report.passed_over(); }
+
+    bool is_names(const fs::path &path) const override { return origins != nullptr && origins->is_names(path); }
 
     const Times &times() const { return spent; }
 
@@ -121,6 +150,11 @@ private:
         // convert tells the variables first.
         const Verdict verdict = solver.ask({clauses.data(), needed}, told.first);
         spent.solve += watch.lap();
+        // Whoever reads that a branch is dead finds the file there.
+        if (origins != nullptr) {
+            origins->write(guard, file, {set.data(), simbolufa::nodes_of(file.table)}, {clauses.data(), needed});
+            *spent.origins += watch.lap();
+        }
         switch (verdict) {
         case Verdict::live:
             return report.live();
@@ -156,6 +190,7 @@ private:
     }
 
     Report &report;
+    Origins *const origins;
     NodeFile file;
     std::array<uint8_t, most_nodes> set{};
     std::vector<uint8_t> clauses;
@@ -188,11 +223,23 @@ std::string read_words(int count, char **words, Command &command)
             const auto [end, error] = std::from_chars(number.data(), last, command.conflicts);
             if (error != std::errc() || end != last || command.conflicts < 0)
                 return "--conflicts without a number";
+        } else if (word == "--origins") {
+            command.origins = ++at < count ? words[at] : "";
+            if (command.origins.empty())
+                return "--origins without a folder";
+        } else if (word == "--names") {
+            command.names = ++at < count ? words[at] : "";
+            if (command.names.empty())
+                return "--names without a folder or a file";
         } else {
             return "no such option: " + std::string(word);
         }
     }
-    return command.paths.empty() && !command.help ? "no path is given" : "";
+    if (command.help)
+        return "";
+    if (!command.names.empty() && command.origins.empty())
+        return "--names without --origins";
+    return command.paths.empty() ? "no path is given" : "";
 }
 
 // Where a standard descriptor is closed, a file that is opened would take its place, and be written to. What is put there
@@ -211,10 +258,40 @@ int say_help()
     return output.has_failed() ? bad_usage : 0;
 }
 
+// Whether a path is a folder's, or leads into it.
+bool lies_in(const fs::path &path, const fs::path &folder)
+{
+    std::error_code fault;
+    const fs::path inner = fs::weakly_canonical(path, fault);
+    const fs::path outer = fault ? fs::path() : fs::canonical(folder, fault);
+    return !fault && std::mismatch(outer.begin(), outer.end(), inner.begin(), inner.end()).first == outer.end();
+}
+
+// Makes the folder for origins. Throws Unwritable, before anything is read.
+void make_origins(const Command &command, Report &report, std::optional<Origins> &origins)
+{
+    // The next pass would take the files for guards.
+    for (const char *path : command.paths)
+        if (lies_in(command.origins, path))
+            throw Unwritable("it lies in " + shown(path) + ", and all files there are read as guards");
+    std::error_code fault;
+    if (!command.names.empty() && !fs::exists(command.names, fault))
+        throw Unwritable("there are no names at " + shown(command.names.string()));
+    origins.emplace(command.origins, command.names, report);
+}
+
 int run(const Command &command)
 {
     Report report(command.quiet);
-    Pass pass(report, command.conflicts);
+    std::optional<Origins> origins;
+    try {
+        if (!command.origins.empty())
+            make_origins(command, report, origins);
+    } catch (const Unwritable &fault) {
+        std::fprintf(stderr, "nightly: no origins in %s: %s\n", shown(command.origins.string()).c_str(), fault.what());
+        return bad_usage;
+    }
+    Pass pass(report, command.conflicts, origins ? &*origins : nullptr);
     catch_signals();
     try {
         for (const char *path : command.paths)

@@ -92,12 +92,30 @@ void Report::passed_over()
     passed_paths++;
 }
 
+void Report::no_names(const std::string &whose, const std::string &why)
+{
+    say(told, shown(whose) + "\tno names\t" + shown(why) + ": options have their numbers as names");
+}
+
+void Report::without_origins()
+{
+    guards_without_origins++;
+}
+
+void Report::unwritten(const std::string &path, const std::string &why)
+{
+    guards_without_origins++;
+    say(told, shown(path) + "\tnot written\t" + shown(why));
+}
+
 void Report::times(const Times &times)
 {
     say(told, "read\t" + in_seconds(times.read, 3));
     say(told, "choose\t" + in_seconds(times.choose, 3));
     say(told, "convert\t" + in_seconds(times.convert, 3));
     say(told, "solve\t" + in_seconds(times.solve, 3));
+    if (times.origins)
+        say(told, "origins\t" + in_seconds(*times.origins, 3));
 }
 
 void Report::end()
@@ -115,7 +133,7 @@ void Report::end_at(int signal)
 
 int Report::status() const
 {
-    if (missed_paths > 0 || found.has_failed() || told.has_failed())
+    if (missed_paths > 0 || guards_without_origins > 0 || found.has_failed() || told.has_failed())
         return 2;
     if (refusals() > 0 || undecided_guards > 0)
         return 1;
@@ -152,6 +170,8 @@ std::string Report::counts() const
         text += ", " + std::to_string(missed_paths) + " not read";
     if (passed_paths > 0)
         text += ", " + std::to_string(passed_paths) + " passed over";
+    if (guards_without_origins > 0)
+        text += ", " + std::to_string(guards_without_origins) + " without origins";
     return text;
 }
 

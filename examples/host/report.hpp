@@ -10,6 +10,7 @@
 #include <chrono>
 #include <cstdint>
 #include <map>
+#include <optional>
 #include <string>
 #include <string_view>
 
@@ -21,6 +22,8 @@ struct Times {
     Duration choose{};
     Duration convert{};
     Duration solve{};
+    // Where origins are written.
+    std::optional<Duration> origins;
 };
 
 // A descriptor that lines are written to, each at once, so that none is lost where the pass does not end.
@@ -48,6 +51,12 @@ public:
     void refused(const Guard &guard, const simbolufa::answer &answer);
     void missed(const std::string &path, const std::string &why);
     void passed_over();
+    // Options have their numbers as names.
+    void no_names(const std::string &whose, const std::string &why);
+    // A guard has no file of origins, since its names are wrong, which was said of them.
+    void without_origins();
+    // It has none, since that cannot be written.
+    void unwritten(const std::string &path, const std::string &why);
 
     void times(const Times &times);
     // Says what was found.
@@ -56,7 +65,7 @@ public:
     void end_at(int signal);
 
     // For the shell: 0 where every guard was converted and decided, 1 where one was not, 2 where something was not read
-    // or not written. A dead branch is a finding and no failure.
+    // or not written, origins too. A dead branch is a finding and no failure.
     int status() const;
 
 private:
@@ -83,6 +92,7 @@ private:
     uint64_t undecided_guards = 0;
     uint64_t missed_paths = 0;
     uint64_t passed_paths = 0;
+    uint64_t guards_without_origins = 0;
     std::map<uint32_t, uint64_t> refused_guards;
 };
 
