@@ -120,7 +120,7 @@
  * The version of this header, and of the library that is installed with it. CHANGELOG.md says what may change in which
  * version.
  */
-#define SIMBOLUFA_VERSION "2.0.0"
+#define SIMBOLUFA_VERSION "2.1.0"
 #define SIMBOLUFA_VERSION_MAJOR 2
 #define SIMBOLUFA_VERSION_MINOR 0
 #define SIMBOLUFA_VERSION_PATCH 0

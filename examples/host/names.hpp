@@ -40,7 +40,7 @@ public:
     size_t length_of(uint32_t option) const { return ends[option] - ends[option - 1] - 1; }
 
     // The name of a node's helper: its number in brackets, `[7]`. Where an option has that name, or it with `!` before it,
-    // further brackets are put round it, until none has. So a literal never looks like another variable's.
+    // further brackets are put round it, until none has. So a helper's literal never looks like an option's.
     std::string of_helper(size_t node) const;
 
 private:

@@ -8,12 +8,15 @@ use native.Mathlib.Nat.{zero-add, sub-self}
 use native.Mathlib.Omega.{arith}
 use lib.ListN.{length, getD}
 use Rattle.laws.specs.Lists.{Every, none, more}
+use Rattle.answer.specs.declared.Answer.the-variants.{Accepted}
+use Rattle.formula.specs.Checks.{checked}
 use Rattle.formula.specs.Tables.{nodeCount, nodesOf}
+use Rattle.marks.specs.Sets.{setChecked}
 use Rattle.formula.specs.declared.node.Node.{Node}
 use Rattle.formula.proofs.Laws.Tables.{length-nodesOf}
 use Rattle.text.specs.Texts.{decimal, joined}
 use Rattle.names.specs.Names.{nameOf}
-use Rattle.clausal.specs.Clauses.{Literal, Clause, Renaming, renaming, variablesOf}
+use Rattle.clausal.specs.Clauses.{Literal, Clause, Renaming, renaming}
 use Rattle.clausal.specs.Clauses as rules
 use Rattle.clausal.specs.Meanings.{Origin, Named}
 use Rattle.clausal.specs.Output.{outputOf}
@@ -85,6 +88,13 @@ every-map : {Q R : Literal → Type 0} → ((l : Literal) → Q l → R l) → {
 every-map f none = none
 every-map f (more {x = l} q e) = more (f l q) (every-map f e)
 
+-- every variable of a clause of the output has a name
+pub output-ranged : (t : List ℕ) (v : ℕ) (s : List ℕ) → checked t v ≡ Accepted 0 0 → setChecked (nodesOf t) s ≡ Accepted 0 0 → (k : ℕ)
+    → Ranged (v + rules.renamedBelow s (length (nodesOf t))) (getD (outputOf (renaming v s) (nodesOf t)) k [])
+output-ranged t v s table set k =
+    every-map (λ l o. variable-range t v (renaming v s) table set (omega arith) (l .variable) o)
+    (every-at (output-named (renaming v s) (nodesOf t)) k)
+
 module _ (t : List ℕ) (v : ℕ) (marks s : List ℕ) (cs ls : List (List ℕ)) (helpers ol hl : List ℕ) (from end : ℕ)
     (w : Tellable t v marks s cs ls helpers ol hl from end) where
   abbrev u : Renaming
@@ -105,14 +115,12 @@ module _ (t : List ℕ) (v : ℕ) (marks s : List ℕ) (cs ls : List (List ℕ))
   writable : Writable t cs ls helpers
   writable = written.writable t v marks s cs ls (g .prepared) helpers (g .named)
 
-  -- every variable of the output has a name
+  -- every variable of the output has a name in the lists
   ranged : (k : ℕ) → Ranged (v + nameCount hl) (getD (outputOf u ns) k [])
   ranged k =
       let size = right t v marks s cs ls helpers g .size in
-      let sum : variablesOf u (length ns) ≡ v + nameCount hl =
-      ap (λ (n : ℕ). v + rules.renamedBelow s n) (sym size) ∙ ap (λ (n : ℕ). v + n) (sym (w .count)) in
-      every-map (λ l o. let r = variable-range t v u (g .table) (g .prepared .settled .set) (omega arith) (l .variable) o in
-      (r .0, omega (arith, r .1, sum))) (every-at (output-named u ns) k)
+      subst (λ (n : ℕ). Ranged (v + n) (getD (outputOf u ns) k [])) (ap (rules.renamedBelow s) (sym size) ∙ sym (w .count))
+      (output-ranged t v s (g .table) (g .prepared .settled .set) k)
 
   module _ (start : List ℕ) (pen : Pen) where
     -- the lines up to clause k are put, and clause k stands some clauses behind the beginning of a part
