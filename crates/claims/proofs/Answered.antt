@@ -29,6 +29,10 @@ kept-either false before x y p q = q
 pub not-both : {A : Type 0} → _≡_ {A = Bool} false true → A
 not-both e = let z : _≡_ {A = ℕ} 0 1 = cc in absurd (omega arith)
 
+-- what is equal to what does not refuse does not refuse
+pub passed : {O : Type 0} {x y : Wrote O} → x ≡ y → refuses (x .answer) ≡ false → refuses (y .answer) ≡ false
+passed {O} q e = sym (ap (λ (w : Wrote O). refuses (w .answer)) q) ∙ e
+
 -- what an acceptance has passed
 pub accepted-after : (a next : Answer) → refuses (after a next) ≡ false → (refuses a ≡ false) × (after a next ≡ next)
 accepted-after a next = go (refuses a) refl

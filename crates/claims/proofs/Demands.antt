@@ -15,23 +15,29 @@ use Rattle.formula.specs.Tables.{mostOptions, nodesOf}
 use Rattle.formula.proofs.Laws.WellFormed.{checked-accepted}
 use Rattle.clausal.specs.Totals.{choose, totalUnder, totals}
 use Rattle.clausal.specs.Clauses.{renaming, variablesOf}
+use Rattle.clausal.specs.Output.{outputOf}
 use Rattle.clausal.proofs.Names.{helper-range}
 use Rattle.clausal.proofs.Totals.{clauses-read}
 use Rattle.clausebytes.specs.Words.{mostVariables, wrongBytes, clausesOf}
 use Rattle.clausal.specs.Calls.{measured, chosenBy, converted, convertedAfter}
 use Rattle.choose.proofs.Allowances.{compared}
 use Rattle.convert.proofs.Laws.Checked.{few-options}
+use Rattle.names.specs.Names.{nameOf}
+use Rattle.origin.specs.Calls.{originCall, originsCall}
+use Rattle.origin.specs.Origins.{lineOf, linesOf}
 use Rattle.dimacs.specs.Texts.{writeCall, writtenText}
 use Rattle.dimacs.specs.Inner.Calls.{readCall}
 use Rattle.dimacs.proofs.RoundTrip.{reads-what-writes}
 use Rattle.claims.specs.Calls.{first, second, Guard, nodes, names, guards, Check, checkSeen, checkGuard, Measure, measureSeen}
 use Rattle.claims.specs.Calls.{measureGuard, Choose, chooseSeen, chooseGuard, allowance, Convert, convertSeen, convertGuard}
 use Rattle.claims.specs.Calls.{ConvertAfter, afterSeen, afterGuard, Write, writeSeen, clauseBytes, declared, Read, readSeen, textOf}
-use Rattle.claims.specs.Calls.{over}
+use Rattle.claims.specs.Calls.{over, Origin, originSeen, originGuard, clauseAsked, optionNames, helperNames}
+use Rattle.claims.specs.Calls.{Origins, originsSeen, originsGuard, originsOptionNames, originsHelperNames}
 use Rattle.claims.specs.Claims.{Demand1, Demand2, Demand3, Chain, none, next}
 use Rattle.claims.proofs.Answered.{answers, Zero, zero, gives, first-told, second-told, stored-room}
 use Rattle.claims.proofs.Outputs.{measured-accepted, chosen-kept, chosen-accepted, Passed, convert-kept, convert-passed}
 use Rattle.claims.proofs.Outputs.{after-kept, after-passed, write-kept, write-accepted, read-kept, read-accepted}
+use Rattle.claims.proofs.Origins.{Told, origin-kept, origin-told, origins-kept, origins-told}
 use Rattle.claims.proofs.Meanings.{few-variables, means}
 use Rattle.claims.proofs.Chains.{Follows, nothing, guard, together}
 
@@ -51,6 +57,14 @@ convertWrote c = let g = convertGuard c in converted (g .table) (g .options) (g 
 abbrev afterWrote : ConvertAfter → Wrote (List ℕ)
 afterWrote c = let g = afterGuard c in convertedAfter (g .table) (g .options) (g .taken) (g .set) (afterSeen c .before)
 
+abbrev pub originWrote : Origin → Wrote (List ℕ)
+originWrote c = let g = originGuard c in
+    originCall (g .table) (g .options) (g .set) (clauseAsked c) (optionNames c) (helperNames c) (originSeen c .before)
+
+abbrev pub originsWrote : Origins → Wrote (List ℕ)
+originsWrote c = let g = originsGuard c in
+    originsCall (g .table) (g .options) (g .set) (originsOptionNames c) (originsHelperNames c) (originsSeen c .before)
+
 abbrev writeWrote : Write → Wrote (List ℕ)
 writeWrote c = writeCall (clauseBytes c) (declared c) (writeSeen c .before)
 
@@ -67,6 +81,10 @@ demand1 = record {
       (convert-kept (g .table) (g .options) (g .set) (convertSeen c .before));
   convertAfter = λ c. let g = afterGuard c in answers (afterSeen c) (afterWrote c) (c .promise)
       (after-kept (g .table) (g .options) (g .set) (afterSeen c .before) (g .taken));
+  origin = λ c. let g = originGuard c in answers (originSeen c) (originWrote c) (c .promise)
+      (origin-kept (g .table) (g .options) (g .set) (optionNames c) (helperNames c) (originSeen c .before) (clauseAsked c));
+  origins = λ c. let g = originsGuard c in answers (originsSeen c) (originsWrote c) (c .promise)
+      (origins-kept (g .table) (g .options) (g .set) (originsOptionNames c) (originsHelperNames c) (originsSeen c .before));
   write = λ c. answers (writeSeen c) (writeWrote c) (c .promise .0) (write-kept (clauseBytes c) (declared c) (writeSeen c .before));
   read = λ c. answers (readSeen c) (readWrote c) (c .promise) (read-kept (textOf c) (readSeen c .before));
 }
@@ -80,6 +98,27 @@ after-done : (c : ConvertAfter) → afterSeen c .returned ≡ 0 → Passed (afte
 after-done c z = let g = afterGuard c in
     after-passed (g .table) (g .options) (g .set) (afterSeen c .before) (g .taken)
     (zero (afterSeen c) (afterWrote c) (c .promise) z .accepted)
+
+-- the line, and the lines, that a call has to leave
+abbrev pub lineAsked : Origin → List ℕ
+lineAsked c = let g = originGuard c in lineOf (nameOf (optionNames c) (helperNames c) (g .options)) (names g) (nodes g) (clauseAsked c)
+
+abbrev pub linesAsked : Origins → List ℕ
+linesAsked c = let g = originsGuard c in
+    linesOf (nameOf (originsOptionNames c) (originsHelperNames c) (g .options)) (names g) (nodes g) (length (outputOf (names g) (nodes g)))
+
+pub origin-done : (c : Origin) → originSeen c .returned ≡ 0 → let g = originGuard c in
+    Told g (clauseAsked c < length (outputOf (names g) (nodes g))) (optionNames c) (helperNames c) (lineAsked c) (originSeen c .before)
+    (originWrote c)
+origin-done c z = let g = originGuard c in
+    origin-told (g .table) (g .options) (g .set) (optionNames c) (helperNames c) (originSeen c .before) (clauseAsked c)
+    (zero (originSeen c) (originWrote c) (c .promise) z .accepted)
+
+pub origins-done : (c : Origins) → originsSeen c .returned ≡ 0
+    → Told (originsGuard c) (Unit {0}) (originsOptionNames c) (originsHelperNames c) (linesAsked c) (originsSeen c .before) (originsWrote c)
+origins-done c z = let g = originsGuard c in
+    origins-told (g .table) (g .options) (g .set) (originsOptionNames c) (originsHelperNames c) (originsSeen c .before)
+    (zero (originsSeen c) (originsWrote c) (c .promise) z .accepted)
 
 -- the round trip
 module _ (w : Write) (r : Read) (z : writeSeen w .returned ≡ 0)
@@ -144,6 +183,10 @@ demand2 = record {
       (zero (convertSeen c) (convertWrote c) (c .promise) z) (convert-done c z .wrote);
   convertAfter = λ c z. gives (afterSeen c) (afterWrote c) (c .promise) _ _ _
       (zero (afterSeen c) (afterWrote c) (c .promise) z) (after-done c z .wrote);
+  origin = λ c z. gives (originSeen c) (originWrote c) (c .promise) _ _ _
+      (zero (originSeen c) (originWrote c) (c .promise) z) (origin-done c z .wrote);
+  origins = λ c z. gives (originsSeen c) (originsWrote c) (c .promise) _ _ _
+      (zero (originsSeen c) (originsWrote c) (c .promise) z) (origins-done c z .wrote);
   write = λ c z. let d = zero (writeSeen c) (writeWrote c) (c .promise .0) z in
       gives (writeSeen c) (writeWrote c) (c .promise .0) _ _ _ d
       (write-accepted (clauseBytes c) (declared c) (writeSeen c .before) (d .accepted) .1);

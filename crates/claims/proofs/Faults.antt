@@ -11,8 +11,8 @@ use Rattle.answer.proofs.Laws.Order.{refused-first, refused-wrote}
 use Rattle.formula.specs.Checks.{checked}
 use Rattle.formula.specs.Tables.{nodeAt, faultOf}
 use Rattle.formula.proofs.Laws.Faults.{lowest-decides}
-use Rattle.claims.specs.Calls.{Seen, Guard, checkGuard, checkSeen, measureGuard, measureSeen, chooseGuard, chooseSeen}
-use Rattle.claims.specs.Calls.{convertGuard, convertSeen, afterGuard, afterSeen}
+use Rattle.claims.specs.Calls.{Seen, Guard, checkGuard, measureGuard, chooseGuard, convertGuard, afterGuard, originGuard}
+use Rattle.claims.specs.Calls.{originsGuard}
 use Rattle.claims.specs.Claims.{Answers, Faulty, TellsFault, Faults}
 use Rattle.claims.proofs.Demands.{demand1}
 
@@ -34,7 +34,8 @@ module _ (g : Guard) (j : ℕ) (h : Faulty g j) where
 
   -- a refusal stands, whatever comes after it
   tells-after : {O : Type 0} {s : Seen O} (next : Answer) → Answers (after (checked (g .table) (g .options)) next) s → TellsFault g j s
-  tells-after next says = tells _ says (sym (refused-first told (checked (g .table) (g .options)) true (sym found) (sym is-refusal) next refl))
+  tells-after next says =
+      tells _ says (sym (refused-first told (checked (g .table) (g .options)) true (sym found) (sym is-refusal) next refl))
 
   tells-afterwards : {O P : Type 0} {s : Seen O} (before : P) (w : Wrote P)
       → Answers (afterwards (checked (g .table) (g .options)) before w .answer) s → TellsFault g j s
@@ -49,4 +50,6 @@ faults = record {
   choose = λ c j h. tells-afterwards (chooseGuard c) j h _ _ (demand1 .choose c);
   convert = λ c j h. tells-afterwards (convertGuard c) j h _ _ (demand1 .convert c);
   convertAfter = λ c j h. tells-afterwards (afterGuard c) j h _ _ (demand1 .convertAfter c);
+  origin = λ c j h. tells-afterwards (originGuard c) j h _ _ (demand1 .origin c);
+  origins = λ c j h. tells-afterwards (originsGuard c) j h _ _ (demand1 .origins c);
 }

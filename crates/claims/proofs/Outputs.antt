@@ -1,5 +1,5 @@
 -- Demands 1 and 2: each entry answers as the rules say, keeps what it refuses, and gives what the rules say where it accepts; and the
--- round trip through writing and reading.
+-- round trip through writing and reading. The lines are in `Origins`.
 -- Assumes nothing.
 use mathlib.Core.Path.{_≡_, refl, sym, ap, _∙_, subst⁻¹}
 use mathlib.Core.Bool.{Bool, true, false}
@@ -30,11 +30,8 @@ use Rattle.dimacs.proofs.Reading as dimacs
 use Rattle.dimacs.proofs.Reading.{acceptsText, accepts-exactly, reads, placeOf, place-longest}
 use Rattle.claims.specs.Calls.{Guard, nodes, names, over}
 use Rattle.claims.specs.Claims.{written}
-use Rattle.claims.proofs.Answered.{kept-either, not-both, accepted-after, accepted-right, accepted-left, stored-over}
-
--- what does not refuse is equal to what does not refuse
-passed : {O : Type 0} {x y : Wrote O} → x ≡ y → refuses (x .answer) ≡ false → refuses (y .answer) ≡ false
-passed {O} q e = sym (ap (λ (w : Wrote O). refuses (w .answer)) q) ∙ e
+use Rattle.claims.proofs.Answered.{kept-either, not-both, passed, accepted-after, accepted-right, accepted-left}
+use Rattle.claims.proofs.Answered.{stored-over}
 
 -- measuring
 pub measured-accepted : (t : List ℕ) (v : ℕ) (s : List ℕ) → refuses (measured t v s) ≡ false

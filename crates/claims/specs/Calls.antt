@@ -21,6 +21,10 @@ use Rattle.host.proofs.simbolufa_convert.Kinds as convert-kinds
 use Rattle.host.proofs.simbolufa_convert.Reads as convert
 use Rattle.host.proofs.simbolufa_convert_after.Kinds as after-kinds
 use Rattle.host.proofs.simbolufa_convert_after.Reads as after
+use Rattle.host.proofs.simbolufa_origin.Kinds as origin-kinds
+use Rattle.host.proofs.simbolufa_origin.Reads as origin
+use Rattle.host.proofs.simbolufa_origins.Kinds as origins-kinds
+use Rattle.host.proofs.simbolufa_origins.Reads as origins
 use Rattle.host.proofs.simbolufa_write_dimacs.Kinds as write-kinds
 use Rattle.host.proofs.simbolufa_write_dimacs.Reads as write
 use Rattle.host.proofs.simbolufa_read_dimacs.Kinds as read-kinds
@@ -156,6 +160,53 @@ guards (c ∷ cs) = afterGuard c ∷ guards cs
 
 abbrev pub guardIn : List Guard → ℕ → Guard
 guardIn gs k = getD gs k (record { table = []; options = 0; taken = 0; set = [] })
+
+-- `simbolufa_origin`; R19.1, R19.7: the number of the clause that is asked for, and the two lists of names
+abbrev pub Origin : Type 0
+Origin = Call origin-kinds.ps origin-kinds.r origin.Post
+
+abbrev pub originSeen : Origin → Seen (List ℕ)
+originSeen c = record {
+  returned = c .result;
+  before = now (c .args .1 .1 .1 .1 .1 .1 .0);
+  after = now (c .exit .1 .1 .1 .1 .1 .1 .0);
+  part = now (c .args .1 .1 .1 .1 .1 .1 .1 .0);
+  told = now (c .exit .1 .1 .1 .1 .1 .1 .1 .0);
+}
+
+abbrev pub originGuard : Origin → Guard
+originGuard c = record { table = now (c .args .0); options = c .args .1 .0; taken = c .args .1 .0; set = now (c .args .1 .1 .0) }
+
+abbrev pub clauseAsked : Origin → ℕ
+clauseAsked c = c .args .1 .1 .1 .0
+
+abbrev pub optionNames : Origin → List ℕ
+optionNames c = now (c .args .1 .1 .1 .1 .0)
+
+abbrev pub helperNames : Origin → List ℕ
+helperNames c = now (c .args .1 .1 .1 .1 .1 .0)
+
+-- `simbolufa_origins`, with its two lists of names
+abbrev pub Origins : Type 0
+Origins = Call origins-kinds.ps origins-kinds.r origins.Post
+
+abbrev pub originsSeen : Origins → Seen (List ℕ)
+originsSeen c = record {
+  returned = c .result;
+  before = now (c .args .1 .1 .1 .1 .1 .0);
+  after = now (c .exit .1 .1 .1 .1 .1 .0);
+  part = now (c .args .1 .1 .1 .1 .1 .1 .0);
+  told = now (c .exit .1 .1 .1 .1 .1 .1 .0);
+}
+
+abbrev pub originsGuard : Origins → Guard
+originsGuard c = record { table = now (c .args .0); options = c .args .1 .0; taken = c .args .1 .0; set = now (c .args .1 .1 .0) }
+
+abbrev pub originsOptionNames : Origins → List ℕ
+originsOptionNames c = now (c .args .1 .1 .1 .0)
+
+abbrev pub originsHelperNames : Origins → List ℕ
+originsHelperNames c = now (c .args .1 .1 .1 .1 .0)
 
 -- `simbolufa_write_dimacs`
 abbrev pub Write : Type 0

@@ -1,4 +1,4 @@
--- What was asked for, said of the seven entries over their contracts as the check reads them, in the order of the demands (R15).
+-- What was asked for, said of the nine entries over their contracts as the check reads them, in the order of the demands (R15).
 -- `Calls` says what a host sees of a call. The proofs are in `proofs/`. Assumes nothing: these are statements.
 use mathlib.Core.Bool.{Bool, true, false}
 use mathlib.Core.List.{List, [], _∷_, _++_}
@@ -22,12 +22,16 @@ use Rattle.clausal.specs.Meanings.{Named, satisfies, Extends}
 use Rattle.clausal.specs.Output.{outputOf}
 use Rattle.clausebytes.specs.Words.{wrongBytes, clausesOf}
 use Rattle.clausal.specs.Calls.{measured, chosenBy, converted, convertedAfter}
+use Rattle.names.specs.Names.{nameOf}
+use Rattle.origin.specs.Origins.{lineOf, linesOf}
+use Rattle.origin.specs.Calls.{originCall, originsCall}
 use Rattle.dimacs.specs.Texts.{writeCall, Text, writtenText}
 use Rattle.dimacs.specs.Inner.Calls.{readCall}
 use Rattle.claims.specs.Calls.{Seen, first, second, Guard, nodes, names, Check, checkSeen, checkGuard, Measure, measureSeen}
 use Rattle.claims.specs.Calls.{measureGuard, Choose, chooseSeen, chooseGuard, allowance, Convert, convertSeen, convertGuard}
 use Rattle.claims.specs.Calls.{ConvertAfter, afterSeen, afterGuard, guards, guardIn, Write, writeSeen, clauseBytes, declared, Read}
-use Rattle.claims.specs.Calls.{readSeen, textOf, over}
+use Rattle.claims.specs.Calls.{readSeen, textOf, over, Origin, originSeen, originGuard, clauseAsked, optionNames, helperNames}
+use Rattle.claims.specs.Calls.{Origins, originsSeen, originsGuard, originsOptionNames, originsHelperNames}
 
 -- Demand 1. That every call ends (R15.2) is what the check proves of each entry: its `Statement.statement`, which is the kit's
 -- `denote.Triple.Spec.Meets`. No entry has a `requires`, and what never returns meets no such contract (the kit's `no-contract-hang`).
@@ -48,6 +52,13 @@ pub record Demand1 : Type 0 where
       Answers (converted (g .table) (g .options) (g .set) (convertSeen c .before) .answer) (convertSeen c)
   pub convertAfter : (c : ConvertAfter) → let g = afterGuard c in
       Answers (convertedAfter (g .table) (g .options) (g .taken) (g .set) (afterSeen c .before) .answer) (afterSeen c)
+  -- R19.12 to R19.14: refusal 15 for the number of no clause, 16 for wrong names, and the order of all
+  pub origin : (c : Origin) → let g = originGuard c in
+      Answers (originCall (g .table) (g .options) (g .set) (clauseAsked c) (optionNames c) (helperNames c) (originSeen c .before) .answer)
+      (originSeen c)
+  pub origins : (c : Origins) → let g = originsGuard c in
+      Answers (originsCall (g .table) (g .options) (g .set) (originsOptionNames c) (originsHelperNames c) (originsSeen c .before) .answer)
+      (originsSeen c)
   pub write : (c : Write) → Answers (writeCall (clauseBytes c) (declared c) (writeSeen c .before) .answer) (writeSeen c)
   pub read : (c : Read) → Answers (readCall (textOf c) (readSeen c .before) .answer) (readSeen c)
 
@@ -71,6 +82,8 @@ pub record Faults : Type 0 where
   pub choose : (c : Choose) (j : ℕ) → Faulty (chooseGuard c) j → TellsFault (chooseGuard c) j (chooseSeen c)
   pub convert : (c : Convert) (j : ℕ) → Faulty (convertGuard c) j → TellsFault (convertGuard c) j (convertSeen c)
   pub convertAfter : (c : ConvertAfter) (j : ℕ) → Faulty (afterGuard c) j → TellsFault (afterGuard c) j (afterSeen c)
+  pub origin : (c : Origin) (j : ℕ) → Faulty (originGuard c) j → TellsFault (originGuard c) j (originSeen c)
+  pub origins : (c : Origins) (j : ℕ) → Faulty (originsGuard c) j → TellsFault (originsGuard c) j (originsSeen c)
 
 -- a call that accepted tells two values, and leaves the outputs so
 pub record Gives {O : Type 0} (s : Seen O) (x y : ℕ) (after : O) : Type 0 where
@@ -84,9 +97,13 @@ written g = clausesBytes (outputOf (names g) (nodes g))
 abbrev pub decoded : Guard → List Clause
 decoded g = clausesOf (written g)
 
--- Demand 2, R15.5: where 0 is returned, totals, set, clauses and text are those of the rules; a text that is read is in the grammar
+-- Demand 2, R15.5: where 0 is returned, totals, set, clauses, lines and text are those of the rules; a text that is read is in the
+-- grammar. R6.4, R19.15: what writes clauses or their lines tells the variables and the clauses
+abbrev pub Writes : Guard → List ℕ → Seen (List ℕ) → Type 0
+Writes g bytes s = Gives s (variablesOf (names g) (length (nodes g))) (length (outputOf (names g) (nodes g))) (over bytes (s .before))
+
 abbrev pub Converts : Guard → Seen (List ℕ) → Type 0
-Converts g s = Gives s (variablesOf (names g) (length (nodes g))) (length (outputOf (names g) (nodes g))) (over (written g) (s .before))
+Converts g s = Writes g (written g) s
 
 pub record Demand2 : Type 0 where
   pub check : (c : Check) → checkSeen c .returned ≡ 0 → Gives (checkSeen c) 0 0 tt
@@ -97,6 +114,12 @@ pub record Demand2 : Type 0 where
       Gives (chooseSeen c) (d .picks) (totalUnder (names g) (nodes g) (d .chosen)) (d .chosen)
   pub convert : (c : Convert) → convertSeen c .returned ≡ 0 → Converts (convertGuard c) (convertSeen c)
   pub convertAfter : (c : ConvertAfter) → afterSeen c .returned ≡ 0 → Converts (afterGuard c) (afterSeen c)
+  -- R19.1: the line of the clause that was asked for; R19.6: the lines of all
+  pub origin : (c : Origin) → originSeen c .returned ≡ 0 → let g = originGuard c in
+      Writes g (lineOf (nameOf (optionNames c) (helperNames c) (g .options)) (names g) (nodes g) (clauseAsked c)) (originSeen c)
+  pub origins : (c : Origins) → originsSeen c .returned ≡ 0 → let g = originsGuard c in
+      let name = nameOf (originsOptionNames c) (originsHelperNames c) (g .options) in
+      Writes g (linesOf name (names g) (nodes g) (length (outputOf (names g) (nodes g)))) (originsSeen c)
   pub write : (c : Write) → writeSeen c .returned ≡ 0 → let cs = clausesOf (clauseBytes c) in
       Gives (writeSeen c) (declared c) (length cs) (over (writtenText (declared c) cs) (writeSeen c .before))
   pub read : (c : Read) → readSeen c .returned ≡ 0 → (v : ℕ) × (cs : List Clause) × Text v cs (textOf c)

@@ -17,6 +17,10 @@ use Rattle.host.proofs.simbolufa_convert.Kinds as convert-kinds
 use Rattle.host.proofs.simbolufa_convert.Reads as convert
 use Rattle.host.proofs.simbolufa_convert_after.Kinds as convert-after-kinds
 use Rattle.host.proofs.simbolufa_convert_after.Reads as convert-after
+use Rattle.host.proofs.simbolufa_origin.Kinds as origin-kinds
+use Rattle.host.proofs.simbolufa_origin.Reads as origin
+use Rattle.host.proofs.simbolufa_origins.Kinds as origins-kinds
+use Rattle.host.proofs.simbolufa_origins.Reads as origins
 use Rattle.host.proofs.simbolufa_write_dimacs.Kinds as write-dimacs-kinds
 use Rattle.host.proofs.simbolufa_write_dimacs.Reads as write-dimacs
 use Rattle.host.proofs.simbolufa_read_dimacs.Kinds as read-dimacs-kinds
@@ -46,6 +50,18 @@ pub convert-after-settled : (κs : Lfts 4) (a : Dens κs convert-after-kinds.ps)
     (s t : AtExit (endedOf 4 convert-after-kinds.ps convert-after-kinds.r) κs) → convert-after.Post κs a r s → convert-after.Post κs a q t
     → (r ≡ q) × (now (s .1 .1 .1 .1 .0) ≡ now (t .1 .1 .1 .1 .0)) × (now (s .1 .1 .1 .1 .1 .0) ≡ now (t .1 .1 .1 .1 .1 .0))
 convert-after-settled κs a r q s t e f = left-settled e f
+
+pub origin-settled : (κs : Lfts 5) (a : Dens κs origin-kinds.ps) (r q : resT origin-kinds.r κs .Denot)
+    (s t : AtExit (endedOf 5 origin-kinds.ps origin-kinds.r) κs) → origin.Post κs a r s → origin.Post κs a q t
+    → (r ≡ q) × (now (s .1 .1 .1 .1 .1 .1 .0) ≡ now (t .1 .1 .1 .1 .1 .1 .0))
+    × (now (s .1 .1 .1 .1 .1 .1 .1 .0) ≡ now (t .1 .1 .1 .1 .1 .1 .1 .0))
+origin-settled κs a r q s t e f = left-settled e f
+
+pub origins-settled : (κs : Lfts 5) (a : Dens κs origins-kinds.ps) (r q : resT origins-kinds.r κs .Denot)
+    (s t : AtExit (endedOf 5 origins-kinds.ps origins-kinds.r) κs) → origins.Post κs a r s → origins.Post κs a q t
+    → (r ≡ q) × (now (s .1 .1 .1 .1 .1 .0) ≡ now (t .1 .1 .1 .1 .1 .0))
+    × (now (s .1 .1 .1 .1 .1 .1 .0) ≡ now (t .1 .1 .1 .1 .1 .1 .0))
+origins-settled κs a r q s t e f = left-settled e f
 
 pub write-dimacs-settled : (κs : Lfts 3) (a : Dens κs write-dimacs-kinds.ps) (r q : resT write-dimacs-kinds.r κs .Denot)
     (s t : AtExit (endedOf 3 write-dimacs-kinds.ps write-dimacs-kinds.r) κs) → write-dimacs.Post κs a r s → write-dimacs.Post κs a q t

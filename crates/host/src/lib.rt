@@ -5,6 +5,7 @@ ghost use lib.ListN.{getD};
 ghost use Rattle.answer.specs.Answers.{only, leaves};
 ghost use Rattle.formula.specs.Checks.{checked};
 ghost use Rattle.clausal.specs.Calls.{measured, chosenBy, converted, convertedAfter};
+ghost use Rattle.origin.specs.Calls.{originCall, originsCall};
 ghost use Rattle.dimacs.specs.Texts.{writeCall};
 ghost use Rattle.dimacs.specs.Inner.Calls.{readCall};
 use answer::give;
@@ -99,6 +100,66 @@ pub extern "C" fn simbolufa_convert_after(
     }
     give(
         convert::convert::convert_after(table, options, taken, set, out),
+        answer,
+    )
+}
+
+// Checks a table, a set, a clause's number and the names of options and of helpers, and writes the line that tells where the clause
+// comes from: variables and clauses are reported.
+#[no_mangle]
+pub extern "C" fn simbolufa_origin<'a>(
+    table: &[u8],
+    options: u32,
+    set: &[u8],
+    clause: u32,
+    option_names: &'a [u8],
+    helper_names: &'a [u8],
+    line: &mut [u8],
+    answer: &mut [u8],
+) -> u32
+    ensures { λ r. ⌜ record { result = r; output = now (line .exit); part = now (answer .exit) }
+        ≡ leaves (now (answer .entry)) (now (line .entry))
+        (originCall (now (table .entry)) options (now (set .entry)) clause (now («option_names» .entry)) (now («helper_names» .entry))
+        (now (line .entry))) ⌝ }
+{
+    if is_part_wrong(answer) {
+        return 11;
+    }
+    give(
+        origin::calls::origin(
+            table,
+            options,
+            set,
+            clause,
+            option_names,
+            helper_names,
+            line,
+        ),
+        answer,
+    )
+}
+
+// The same for all clauses, one line after the other.
+#[no_mangle]
+pub extern "C" fn simbolufa_origins<'a>(
+    table: &[u8],
+    options: u32,
+    set: &[u8],
+    option_names: &'a [u8],
+    helper_names: &'a [u8],
+    lines: &mut [u8],
+    answer: &mut [u8],
+) -> u32
+    ensures { λ r. ⌜ record { result = r; output = now (lines .exit); part = now (answer .exit) }
+        ≡ leaves (now (answer .entry)) (now (lines .entry))
+        (originsCall (now (table .entry)) options (now (set .entry)) (now («option_names» .entry)) (now («helper_names» .entry))
+        (now (lines .entry))) ⌝ }
+{
+    if is_part_wrong(answer) {
+        return 11;
+    }
+    give(
+        origin::calls::origins(table, options, set, option_names, helper_names, lines),
         answer,
     )
 }
