@@ -90,7 +90,7 @@ demand1 = record {
 }
 
 -- where 0 is returned
-convert-done : (c : Convert) → convertSeen c .returned ≡ 0 → Passed (convertGuard c) (convertSeen c .before) (convertWrote c)
+pub convert-done : (c : Convert) → convertSeen c .returned ≡ 0 → Passed (convertGuard c) (convertSeen c .before) (convertWrote c)
 convert-done c z = let g = convertGuard c in
     convert-passed (g .table) (g .options) (g .set) (convertSeen c .before) (zero (convertSeen c) (convertWrote c) (c .promise) z .accepted)
 

@@ -6,3 +6,4 @@ pub mod Meanings
 pub mod Chains
 pub mod Demands
 pub mod Faults
+pub mod Sources

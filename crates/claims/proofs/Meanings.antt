@@ -73,7 +73,7 @@ module _ (g : Guard) (before : List ℕ) (w : Wrote (List ℕ)) (p : Passed g be
             (output-named u ns);
       }
 
-  decoded-same : decoded g ≡ outputOf u ns
+  pub decoded-same : decoded g ≡ outputOf u ns
   decoded-same = clauses-of-bytes (variablesOf u (length ns)) (outputOf u ns) right-clauses
 
   pub means : Means g

@@ -19,11 +19,12 @@ use Rattle.formula.specs.declared.node.Kind.the-variants.{Symbol}
 use Rattle.clausal.specs.Totals.{Choice, choose, totalUnder, totals}
 use Rattle.clausal.specs.Clauses.{Clause, clausesBytes, helperOf, variablesOf}
 use Rattle.clausal.specs.Meanings.{Named, satisfies, Extends}
-use Rattle.clausal.specs.Output.{outputOf}
+use Rattle.clausal.specs.Output.{Direction, outputOf}
 use Rattle.clausebytes.specs.Words.{wrongBytes, clausesOf}
 use Rattle.clausal.specs.Calls.{measured, chosenBy, converted, convertedAfter}
-use Rattle.names.specs.Names.{nameOf}
-use Rattle.origin.specs.Origins.{lineOf, linesOf}
+use Rattle.text.specs.Texts.{parted}
+use Rattle.names.specs.Names.{tab, newline, nameOf}
+use Rattle.origin.specs.Origins.{Source, sourceOf, Comes, fieldsOf, lineOf, linesOf}
 use Rattle.origin.specs.Calls.{originCall, originsCall}
 use Rattle.dimacs.specs.Texts.{writeCall, Text, writtenText}
 use Rattle.dimacs.specs.Inner.Calls.{readCall}
@@ -130,6 +131,40 @@ pub record Demand2 : Type 0 where
       → length (clauseBytes w) ≤ length (readSeen r .before) → length (readSeen r .part) ≡ 16
       → (readSeen r .returned ≡ 0) × (readSeen r .told ≡ writeSeen w .told)
       × (readSeen r .after ≡ over (clauseBytes w) (readSeen r .before))
+
+-- line j of a buffer, without its newline; and clause k of the bytes that a conversion has left
+abbrev pub lineIn : List ℕ → ℕ → List ℕ
+lineIn buffer j = getD (parted newline buffer) j []
+
+abbrev pub clauseIn : Convert → ℕ → Clause
+clauseIn d k = getD (clausesOf (take (length (written (convertGuard d))) (convertSeen d .after))) k []
+
+-- the fields that the line of clause k has to have, by the literals of a clause
+abbrev pub fieldsFor : Guard → List ℕ → List ℕ → ℕ → Clause → List (List ℕ)
+fieldsFor g on hn k c = fieldsOf (nameOf on hn (g .options)) k (sourceOf (names g) (nodes g) k) c
+
+-- R19.16 to R19.19: what the lines of accepted calls say
+pub record Sources : Type 0 where
+  -- R19.16: the clause with the line's number, in the part with the line's origin and direction, is the clause that was asked for
+  pub comes : (c : Origin) → originSeen c .returned ≡ 0 → let g = originGuard c in
+      let s : Source = sourceOf (names g) (nodes g) (clauseAsked c) in
+      Comes (names g) (nodes g) (clauseAsked c) (s .origin) (s .direction) (s .number)
+  -- R19.17: no other origin, direction and number gives that clause, and these three give no other clause
+  pub only : (c : Origin) → originSeen c .returned ≡ 0 → (node m : ℕ) (way : Direction) → let g = originGuard c in
+      let s : Source = sourceOf (names g) (nodes g) (clauseAsked c) in
+      Comes (names g) (nodes g) (clauseAsked c) node way m → (node ≡ s .origin) × (way ≡ s .direction) × (m ≡ s .number)
+  pub one : (c : Origin) → originSeen c .returned ≡ 0 → (j : ℕ) → let g = originGuard c in
+      let s : Source = sourceOf (names g) (nodes g) (clauseAsked c) in
+      Comes (names g) (nodes g) j (s .origin) (s .direction) (s .number) → j ≡ clauseAsked c
+  -- R19.18, R19.19: cut at its tabs, the line in the buffer has its fields, with the literals of that clause in the converted bytes
+  pub line : (c : Origin) (d : Convert) → originSeen c .returned ≡ 0 → convertSeen d .returned ≡ 0 → convertGuard d ≡ originGuard c
+      → parted tab (lineIn (originSeen c .after) 0)
+      ≡ fieldsFor (originGuard c) (optionNames c) (helperNames c) (clauseAsked c) (clauseIn d (clauseAsked c))
+  -- R19.6: so has each of all lines
+  pub lines : (c : Origins) (d : Convert) → originsSeen c .returned ≡ 0 → convertSeen d .returned ≡ 0
+      → convertGuard d ≡ originsGuard c → (k : ℕ) → k < length (outputOf (names (originsGuard c)) (nodes (originsGuard c)))
+      → parted tab (lineIn (originsSeen c .after) k)
+      ≡ fieldsFor (originsGuard c) (originsOptionNames c) (originsHelperNames c) k (clauseIn d k)
 
 -- Demand 3 of clauses, and the naming rule (R3.10, R3.11, R12.8): what the clauses in the bytes of a guard mean
 pub record Means (g : Guard) : Type 0 where

@@ -2,22 +2,24 @@
 -- Assumes nothing.
 use mathlib.Core.Path.{_≡_, refl, sym, ap, _∙_}
 use mathlib.Core.Bool.{Bool, true, false, cond, not, _&&_, _||_}
-use mathlib.Core.List.{List, [], _∷_, _++_, map}
-use Prim.Native.Nat.{ℕ, _+_, _-_, _≤_, _<_}
+use mathlib.Core.List.{List, [], _∷_, _++_, map, append-assoc}
+use Prim.Native.Nat.{ℕ, zero, suc, _+_, _-_, _≤_, _<_}
 use native.Mathlib.Omega.{arith}
 use lib.Dec.{eqb, leb}
-use lib.ListN.{length}
+use lib.ListN.{length, getD, List·getD-append}
 use borrow.Author.Tests.{leb-true, leb-false}
-use Rattle.laws.specs.Lists.{Every, none, more}
+use Rattle.laws.specs.Lists.{Every, none, more, upTo}
 use Rattle.laws.proofs.Choices.{both}
+use Rattle.laws.proofs.Upward.{length-upTo, getD-upTo}
+use Rattle.formula.specs.declared.node.Node.{Node}
 use Rattle.text.specs.Texts.{decimal, parted, joined}
 use Rattle.text.specs.Inner.Numbers.{isDigit}
 use Rattle.text.proofs.Laws.Pieces.{free, parted-whole, parted-piece, decimal-free}
 use Rattle.names.specs.Names.{tab, newline, has, isNone, isName, rightNames, nameIn, nameOf}
 use Rattle.names.proofs.Laws.Names.{name-right, name-no-newline}
-use Rattle.clausal.specs.Clauses.{Literal, Clause}
-use Rattle.clausal.specs.Output.{Direction, root, down, up}
-use Rattle.origin.specs.Origins.{Source, directionWord, shownLiteral, fieldsOf}
+use Rattle.clausal.specs.Clauses.{Literal, Clause, Renaming}
+use Rattle.clausal.specs.Output.{Direction, root, down, up, outputOf}
+use Rattle.origin.specs.Origins.{Source, sourceOf, directionWord, shownLiteral, fieldsOf, lineText, lineOf, linesOf}
 use Rattle.origin.specs.Inner.Lines.{Ranged}
 
 -- pieces without the mark, put together and cut again
@@ -137,3 +139,31 @@ module _ (v h : ℕ) (ol hl : List ℕ) (right : rightNames v ol ≡ true) (help
   unfolding free
   line-whole k s c r =
       joined-fields newline (v + h) name refl word-no-newline refl (λ x some most. name-is x some most .1) tab refl k s c r
+
+  -- a line that leads a buffer is what stands before the first newline
+  pub line-first : (k : ℕ) (s : Source) (c : Clause) → Ranged (v + h) c → (rest : List ℕ)
+      → parted newline (lineText (fieldsOf name k s c) ++ rest) ≡ joined tab (fieldsOf name k s c) ∷ parted newline rest
+  line-first k s c r rest =
+      ap (parted newline) (append-assoc (joined tab (fieldsOf name k s c)) (10 ∷ []) rest)
+      ∙ parted-piece newline (joined tab (fieldsOf name k s c)) rest (line-whole k s c r)
+
+  -- lines one behind another, cut at the newlines
+  module _ (u : Renaming) (ns : List Node) (ranged : (k : ℕ) → Ranged (v + h) (getD (outputOf u ns) k [])) where
+    abbrev text : ℕ → List ℕ
+    text k = joined tab (fieldsOf name k (sourceOf u ns k) (getD (outputOf u ns) k []))
+
+    lines-parted : (n : ℕ) (rest : List ℕ)
+        → parted newline (linesOf name u ns n ++ rest) ≡ upTo (λ before k. text k) n ++ parted newline rest
+    unfolding linesOf upTo
+    lines-parted zero rest = refl
+    lines-parted (suc n) rest =
+        ap (parted newline) (append-assoc (linesOf name u ns n) (lineOf name u ns n) rest)
+        ∙ lines-parted n (lineOf name u ns n ++ rest)
+        ∙ ap (λ (ps : List (List ℕ)). upTo (λ before k. text k) n ++ ps) (line-first n (sourceOf u ns n) _ (ranged n) rest)
+        ∙ sym (append-assoc (upTo (λ before k. text k) n) (text n ∷ []) (parted newline rest))
+
+    pub line-among : (n k : ℕ) (rest : List ℕ) → k < n → getD (parted newline (linesOf name u ns n ++ rest)) k [] ≡ text k
+    line-among n k rest l =
+        ap (λ (ps : List (List ℕ)). getD ps k []) (lines-parted n rest)
+        ∙ List·getD-append (upTo (λ before j. text j) n) (parted newline rest) [] k (omega (arith, length-upTo (λ before j. text j) n))
+        ∙ getD-upTo (λ before j. text j) [] k n l
