@@ -5,11 +5,15 @@ ghost use Prim.Native.Nat.{_+_, _<_};
 ghost use lib.ListN.{getD, length};
 ghost use Rattle.formula.specs.Tables.{nodesOf};
 ghost use Rattle.walk.specs.Inner.Lists.{namesIn, ownList};
-ghost use Rattle.origin.specs.Inner.Ways.{packed, wayOf, noneAt, Packable, Pushed, waitingClause, weight, load};
+ghost use Rattle.walk.specs.Inner.Packed.{Packable};
+ghost use Rattle.origin.specs.Inner.Ways.{noneAt, Pushed, waitingClause, weight, load};
 ghost use Rattle.origin.specs.Inner.Ways.{Waiting, Startable, Openable, Opened, Settling, FirstOf};
 use walk::step::Parts;
 use walk::step::Way;
 use walk::step::lead;
+use walk::step::pack_way;
+use walk::step::unpack;
+use walk::step::unpack_way;
 
 pub struct Found {
     // Whether there is a literal.
@@ -32,37 +36,13 @@ fn nothing(depth: usize) -> Found
     }
 }
 
-// A way as one number.
-fn pack(way: Way) -> u32
-    requires { ⌜ Packable way ⌝ }
-    ensures { λ r. ⌜ r ≡ packed way ⌝ }
-{
-    let node = way.node as u32;
-    let k = way.k as u32;
-    if way.sign {
-        return (k * 1024 + node) * 2 + 1;
-    }
-    (k * 1024 + node) * 2
-}
-
-// The way that a number stands for.
-fn unpack(number: u32) -> Way
-    ensures { λ r. ⌜ r ≡ wayOf number ⌝ }
-{
-    Way {
-        node: (number / 2 % 1024) as usize,
-        sign: number % 2 == 1,
-        k: (number / 2048) as usize,
-    }
-}
-
 // One way more waits. Returns how many do.
 fn wait(ways: &mut [u32; 1024], depth: usize, way: Way) -> usize
     requires { ⌜ Packable way ⌝ }
     requires { ⌜ depth < 1024 ⌝ }
     ensures { λ r. ⌜ Pushed way (now (ways .entry)) depth r (now (ways .exit)) ⌝ }
 {
-    ways[depth] = pack(way);
+    ways[depth] = pack_way(way);
     depth + 1
 }
 
@@ -82,7 +62,7 @@ fn open_own(
         ++ waitingClause (namesIn (now (helpers .entry))) (nodesOf (now (now (table .entry)))) (now (ways .entry)) depth)
         (weight (way .node) + load (now (ways .entry)) depth) r (now (ways .exit)) ⌝ }
 {
-    let step = lead(table, clauses, literals, helpers, way.node, way.sign, way.k);
+    let step = unpack(lead(table, clauses, literals, helpers, way.node, way.sign, way.k));
     let parts = step.parts;
     let l = step.left;
     let r = step.right;
@@ -118,7 +98,7 @@ fn open_last(
         (load (now (ways .entry)) depth) r (now (ways .exit)) ⌝ }
 {
     let last = depth - 1;
-    let way = unpack(ways[last]);
+    let way = unpack_way(ways[last]);
     let node = way.node;
     let sign = way.sign;
     let helper = helpers[node];

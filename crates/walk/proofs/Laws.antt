@@ -2,6 +2,7 @@
 pub mod Counts
 pub mod Found
 pub mod Leads
+pub mod Packed
 pub mod Put
 pub mod Walks
 pub mod Writes

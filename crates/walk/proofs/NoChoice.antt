@@ -10,6 +10,12 @@ use Rattle.walk.proofs.clause.write_own.Kinds as write-own-kinds
 use Rattle.walk.proofs.clause.write_own.Reads as write-own
 use Rattle.walk.proofs.step.lead.Kinds as lead-kinds
 use Rattle.walk.proofs.step.lead.Reads as lead
+use Rattle.walk.proofs.step.unpack.Kinds as unpack-kinds
+use Rattle.walk.proofs.step.unpack.Reads as unpack
+use Rattle.walk.proofs.step.pack_way.Kinds as pack-way-kinds
+use Rattle.walk.proofs.step.pack_way.Reads as pack-way
+use Rattle.walk.proofs.step.unpack_way.Kinds as unpack-way-kinds
+use Rattle.walk.proofs.step.unpack_way.Reads as unpack-way
 use Rattle.walk.proofs.count.own_count.Kinds as own-count-kinds
 use Rattle.walk.proofs.count.own_count.Reads as own-count
 
@@ -26,4 +32,19 @@ write-own-settled κs a r q s t e f = (e .place ∙ sym (f .place), e .ref ∙ s
 pub lead-settled : (κs : Lfts 5) (a : Dens κs lead-kinds.ps) (r q : resT lead-kinds.r κs .Denot)
     (s t : AtExit (endedOf 5 lead-kinds.ps lead-kinds.r) κs)
     → lead.Post κs a r s → lead.Post κs a q t → r ≡ q
-lead-settled κs a r q s t e f = e ∙ sym f
+lead-settled κs a r q s t e f = e .number ∙ sym (f .number)
+
+pub unpack-settled : (κs : Lfts 0) (a : Dens κs unpack-kinds.ps) (r q : resT unpack-kinds.r κs .Denot)
+    (s t : AtExit (endedOf 0 unpack-kinds.ps unpack-kinds.r) κs)
+    → unpack.Post κs a r s → unpack.Post κs a q t → r ≡ q
+unpack-settled κs a r q s t e f = e ∙ sym f
+
+pub pack-way-settled : (κs : Lfts 0) (a : Dens κs pack-way-kinds.ps) (r q : resT pack-way-kinds.r κs .Denot)
+    (s t : AtExit (endedOf 0 pack-way-kinds.ps pack-way-kinds.r) κs)
+    → pack-way.Post κs a r s → pack-way.Post κs a q t → r ≡ q
+pack-way-settled κs a r q s t e f = e ∙ sym f
+
+pub unpack-way-settled : (κs : Lfts 0) (a : Dens κs unpack-way-kinds.ps) (r q : resT unpack-way-kinds.r κs .Denot)
+    (s t : AtExit (endedOf 0 unpack-way-kinds.ps unpack-way-kinds.r) κs)
+    → unpack-way.Post κs a r s → unpack-way.Post κs a q t → r ≡ q
+unpack-way-settled κs a r q s t e f = e ∙ sym f

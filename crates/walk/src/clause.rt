@@ -7,6 +7,7 @@ ghost use lib.ListN.{getD};
 ghost use mathlib.Core.List.{[]};
 use crate::step::Parts;
 use crate::step::lead;
+use crate::step::unpack;
 use answer::put;
 use clausebytes::word::word;
 
@@ -56,7 +57,7 @@ pub fn write_own(
         (getD (ownList (namesIn (now (helpers .entry))) (nodesOf (now (now (table .entry)))) node sign) k [])) (now (out .entry)) at r
         (now (out .exit)) ⌝ }
 {
-    let step = lead(table, clauses, literals, helpers, node, sign, k);
+    let step = unpack(lead(table, clauses, literals, helpers, node, sign, k));
     let parts = step.parts;
     let l = step.left;
     let r = step.right;

@@ -4,6 +4,7 @@ ghost use Prim.Native.Nat.{_<_};
 ghost use Rattle.formula.specs.Tables.{mostNodes, nodeAt};
 ghost use Rattle.walk.specs.Inner.Lists.{signed, pairIn};
 ghost use Rattle.walk.specs.Inner.Steps.{none, literalOf, leftOf, rightOf, bothOf, countIn, catStep, joinStep, joinsStep, stepBy};
+ghost use Rattle.walk.specs.Inner.Packed.{packed, wayOf, Packable, packedStep, stepOf, Made, Led};
 ghost use Rattle.walk.specs.Inner.Steps.{leadStep, Walkable, Leadable};
 use crate::count::own_count;
 use formula::node::Kind;
@@ -259,7 +260,7 @@ fn by_kind(
 }
 
 // The step to clause k of a node's own list for a sign: nothing where the list has no literal, else by the node's kind.
-pub fn lead(
+fn lead_step(
     table: &&[u8],
     clauses: &[[u16; 1024]; 2],
     literals: &[[u32; 1024]; 2],
@@ -276,4 +277,86 @@ pub fn lead(
         return nothing();
     }
     by_kind(clauses, helpers, node_at(*table, node), sign, k)
+}
+
+// A way as one number.
+pub fn pack_way(way: Way) -> u32
+    requires { ⌜ Packable way ⌝ }
+    ensures { λ r. ⌜ r ≡ packed way ⌝ }
+{
+    let node = way.node as u32;
+    let k = way.k as u32;
+    if way.sign {
+        return (k * 1024 + node) * 2 + 1;
+    }
+    (k * 1024 + node) * 2
+}
+
+// The way that a number stands for.
+pub fn unpack_way(number: u32) -> Way
+    ensures { λ r. ⌜ r ≡ wayOf number ⌝ }
+{
+    Way {
+        node: (number / 2 % 1024) as usize,
+        sign: number % 2 == 1,
+        k: (number / 2048) as usize,
+    }
+}
+
+// A step as one number.
+fn pack(step: Step) -> u64
+    requires { ⌜ Made step ⌝ }
+    ensures { λ r. ⌜ r ≡ packedStep step ⌝ }
+{
+    let parts = step.parts;
+    let l = step.left;
+    let r = step.right;
+    match parts {
+        Parts::Nothing => 0,
+        Parts::Literal => step.variable as u64 * 8 + 1,
+        Parts::Left => pack_way(l) as u64 * 8 + 2,
+        Parts::Right => pack_way(r) as u64 * 8 + 3,
+        Parts::Both => (pack_way(l) as u64 * 134217728 + pack_way(r) as u64) * 8 + 4,
+    }
+}
+
+// The step that a number stands for.
+pub fn unpack(code: u64) -> Step
+    ensures { λ r. ⌜ r ≡ stepOf code ⌝ }
+{
+    let kind = code % 8;
+    let rest = code / 8;
+    if kind == 0 {
+        return nothing();
+    }
+    if kind == 1 {
+        return literal((rest % 4294967296) as u32);
+    }
+    let last = unpack_way((rest % 134217728) as u32);
+    if kind == 2 {
+        return left(last);
+    }
+    if kind == 3 {
+        return right(last);
+    }
+    both(unpack_way((rest / 134217728 % 134217728) as u32), last)
+}
+
+// The same step as one number, which is handed back in a register. A writer that calls itself unpacks it, and keeps no step in
+// its frame.
+pub fn lead(
+    table: &&[u8],
+    clauses: &[[u16; 1024]; 2],
+    literals: &[[u32; 1024]; 2],
+    helpers: &[u32; 1024],
+    node: usize,
+    sign: bool,
+    k: usize,
+) -> u64
+    requires { ⌜ Leadable (now (now table)) node ⌝ }
+    requires { ⌜ k < 65_536 ⌝ }
+    ensures { λ r. ⌜ Led (leadStep (nodeAt (now (now (table .entry))) node) (now (clauses .entry)) (now (literals .entry))
+        (now (helpers .entry)) node sign k) r ⌝ }
+{
+    pack(lead_step(table, clauses, literals, helpers, node, sign, k))
 }

@@ -17,7 +17,8 @@ use Rattle.walk.specs.declared.step.Step.{Step}
 use Rattle.walk.specs.declared.step.Way.{Way}
 use Rattle.walk.proofs.Laws.Leads.{walkable, leads}
 use Rattle.walk.proofs.Laws.Writes.{seen-own, seen-helper}
-use Rattle.origin.specs.Inner.Ways.{wayOf, noneAt, Packable, Pushed, waitingClause, weight, load, WayRight, Waiting, Settling}
+use Rattle.walk.specs.Inner.Packed.{wayOf, Packable}
+use Rattle.origin.specs.Inner.Ways.{noneAt, Pushed, waitingClause, weight, load, WayRight, Waiting, Settling}
 use Rattle.origin.specs.Inner.Ways.{Openable, Opened}
 use Rattle.origin.specs.declared.literal.Found.{Found}
 use Rattle.origin.proofs.Laws.Ways.{weight-some, weight-lower, clause-last, load-last, clause-pushed, load-pushed, waiting-pushed}

@@ -15,29 +15,9 @@ use Rattle.formula.specs.declared.node.Node.{Node}
 use Rattle.walk.specs.Inner.Lists.{namesIn}
 use Rattle.walk.specs.Inner.Steps.{way, wayClause}
 use Rattle.walk.specs.declared.step.Way.{Way}
-use Rattle.origin.specs.Inner.Ways.{packed, wayOf, Pushed, waitingClause, weight, load, WayRight, Waiting}
-
--- a way comes back from its number
-packed-by : (n k : ℕ) → n < mostNodes → (sign : Bool) → wayOf (packed (way n sign k)) ≡ way n sign k
-packed-by n k h true =
-    let e : ((k * 1_024 + n) * 2 + 1) / 2 % 1_024 ≡ n = omega arith in
-    let f : ((k * 1_024 + n) * 2 + 1) % 2 ≡ 1 = omega arith in
-    let g : ((k * 1_024 + n) * 2 + 1) / 2_048 ≡ k = omega arith in
-    λ i. record { node = e i; sign = eq-eqb (((k * 1_024 + n) * 2 + 1) % 2) 1 f i; k = g i }
-packed-by n k h false =
-    let e : ((k * 1_024 + n) * 2 + 0) / 2 % 1_024 ≡ n = omega arith in
-    let g : ((k * 1_024 + n) * 2 + 0) / 2_048 ≡ k = omega arith in
-    λ i. record { node = e i; sign = ne-eqb (((k * 1_024 + n) * 2 + 0) % 2) 1 (λ z. omega arith) i; k = g i }
-
-pub way-packed : (w : Way) → w .node < mostNodes → wayOf (packed w) ≡ w
-way-packed w h = packed-by (w .node) (w .k) h (w .sign)
-
--- the number, by the sign
-pub packed-plain : (w : Way) → w .sign ≡ true → (w .k * 1_024 + w .node) * 2 + 1 ≡ packed w
-packed-plain w e = omega (arith, ap (λ (b : Bool). cond {A = ℕ} b 1 0) e)
-
-pub packed-negated : (w : Way) → w .sign ≡ false → (w .k * 1_024 + w .node) * 2 ≡ packed w
-packed-negated w e = omega (arith, ap (λ (b : Bool). cond {A = ℕ} b 1 0) e)
+use Rattle.walk.specs.Inner.Packed.{packed, wayOf}
+use Rattle.walk.proofs.Laws.Packed.{way-packed}
+use Rattle.origin.specs.Inner.Ways.{Pushed, waitingClause, weight, load, WayRight, Waiting}
 
 -- a node weighs something, and three times what a lower one does or more
 pub weight-some : (n : ℕ) → 0 < weight n

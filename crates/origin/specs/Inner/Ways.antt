@@ -11,22 +11,11 @@ use Rattle.formula.specs.declared.node.Node.{Node}
 use Rattle.clausal.specs.Clauses.{Clause}
 use Rattle.clausal.specs.Totals.{clauseCeiling}
 use Rattle.walk.specs.Inner.Lists.{namesIn, ownList, seenList}
+use Rattle.walk.specs.Inner.Packed.{packed, wayOf}
 use Rattle.walk.specs.Inner.Steps.{wayClause}
 use Rattle.walk.specs.Inner.Written.{Writable}
 use Rattle.walk.specs.declared.step.Way.{Way}
 use Rattle.origin.specs.declared.literal.Found.{Found}
-
--- a way as one number: the clause's number, the node, and the sign
-abbrev pub packed : Way → ℕ
-packed w = (w .k * 1_024 + w .node) * 2 + cond (w .sign) 1 0
-
-abbrev pub wayOf : ℕ → Way
-wayOf x = record { node = x / 2 % 1_024; sign = eqb (x % 2) 1; k = x / 2_048 }
-
--- a way whose number fits
-pub record Packable (w : Way) : Type 0 where
-  pub node : w .node < mostNodes
-  pub k : w .k < clauseCeiling
 
 -- a way was added to the first d ways of an array
 pub record Pushed (w : Way) (before : List ℕ) (d next : ℕ) (after : List ℕ) : Type 0 where

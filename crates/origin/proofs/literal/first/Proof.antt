@@ -1,4 +1,4 @@
--- `literals::literal::first` meets its contract: one step into the node's own list, with no way that waits, and then the ways
+-- `origin::literal::first` meets its contract: one step into the node's own list, with no way that waits, and then the ways
 -- that it leaves. Assumes nothing.
 use borrow.Author.Needs.{needs}
 use Rattle.origin.proofs.Laws.Firsts.{start-openable, start-found, start-later}

@@ -1,4 +1,4 @@
--- `literals::literal::next` meets its contract. The loop's invariant: the ways that wait now have the literals of those that
+-- `origin::literal::next` meets its contract. The loop's invariant: the ways that wait now have the literals of those that
 -- waited at first. What falls is what they weigh. Assumes nothing.
 use mathlib.Core.Path.{_≡_, refl, _∙_}
 use native.Mathlib.Omega.{arith}

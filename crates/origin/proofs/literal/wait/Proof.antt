@@ -1,4 +1,4 @@
--- `literals::literal::wait` meets its contract: one store. Assumes nothing.
+-- `origin::literal::wait` meets its contract: one store. Assumes nothing.
 use mathlib.Core.Path.{refl, ap}
 use mathlib.Core.List.{List}
 use Prim.Native.Nat.{ℕ}
@@ -10,7 +10,7 @@ use Rattle.origin.proofs.literal.wait.Tie as tie
 stored : tie.Need-returns
 stored c =
     let a = c .before .args in
-    record { place = refl; list = ap (set (a .ways .now) (a .depth)) (c .pack .ensures) }
+    record { place = refl; list = ap (set (a .ways .now) (a .depth)) (c .pack-way .ensures) }
 
 pub wait-spec : {M : Type 1} → statement M
 wait-spec =

@@ -13,6 +13,7 @@ use Rattle.walk.proofs.Laws.Put.{put-nothing, put-as}
 use Rattle.walk.proofs.Laws.Writes.{literal-room, literal-end, literal-put, due-own, put-own, due-helper, due-lead, due-leads}
 use Rattle.walk.proofs.Laws.Writes.{due-one, put-one, due-left, due-right, put-two, put-none}
 use Rattle.walk.proofs.step.lead.Reads as lead-reads
+use Rattle.walk.proofs.step.unpack.Reads as unpack-reads
 use Rattle.walk.proofs.clause.write.Reads as write
 use Rattle.walk.proofs.clause.write.Kinds as write-kinds
 use Rattle.walk.proofs.clause.write_own.Reads as write-own
@@ -48,6 +49,8 @@ abbrev own-calls : ℕ → write-own-lts.Claims
 own-calls t = (
   lead-reads.Asked,
   lead-reads.Learnt,
+  unpack-reads.Asked,
+  unpack-reads.Learnt,
   word-reads.Asked,
   word-reads.Learnt,
   put-reads.Asked,
@@ -106,45 +109,52 @@ module _ (t : ℕ) where
   lead-next : write-own-lts.Need-lead-requires (own-calls t) (write-own-at t) write-own.Post
   lead-next c κs =
       let a = c .args in
-      due-lead (a .table .now .now) (a .clauses .now) (a .literals .now) (a .helpers .now) (a .node) (a .sign) (a .k) (a .out .now) (a .at)
-      (c .pre .1)
+      let d = c .pre .1 in (
+        due-lead (a .table .now .now) (a .clauses .now) (a .literals .now) (a .helpers .now) (a .node) (a .sign) (a .k) (a .out .now)
+            (a .at) d,
+        omega (arith, d .has, d .short),
+      )
 
   word-next : write-own-lts.Need-word-requires (own-calls t) (write-own-at t) write-own.Post
   word-next c κs =
       let told = c .before in
-      let lead = told .before .before .before .before in
+      let unpack = told .before .before .before .before in
+      let lead = unpack .before in
       let a = lead .before .args in
       let d = lead .before .pre .1 in
       due-leads (a .table .now .now) (a .clauses .now) (a .literals .now) (a .helpers .now) (a .node) (a .sign) (a .k) (a .out .now)
-      (a .at) d (lead .lead .result) Literal (lead .lead .ensures) (told .enum-told2 .given .1) .0
+      (a .at) d (unpack .unpack .result) Literal (unpack .unpack .ensures ∙ lead .lead .ensures .back) (told .enum-told2 .given .1) .0
 
   room-for-literal : write-own-lts.Need-put-requires (own-calls t) (write-own-at t) write-own.Post
   room-for-literal c κs =
       let told = c .before .before in
-      let lead = told .before .before .before .before in
+      let unpack = told .before .before .before .before in
+      let lead = unpack .before in
       let a = lead .before .args in
       let d = lead .before .pre .1 in
       literal-room _ _ (due-leads (a .table .now .now) (a .clauses .now) (a .literals .now) (a .helpers .now) (a .node) (a .sign) (a .k)
-      (a .out .now) (a .at) d (lead .lead .result) Literal (lead .lead .ensures) (told .enum-told2 .given .1) .1) _ (a .at) (d .fits)
+      (a .out .now) (a .at) d (unpack .unpack .result) Literal (unpack .unpack .ensures ∙ lead .lead .ensures .back) (told .enum-told2 .given .1) .1) _ (a .at) (d .fits)
 
   literal-fits : write-own-lts.Need-add-result (own-calls t) (write-own-at t) write-own.Post
   literal-fits c =
       let told = c .before .before .before in
-      let lead = told .before .before .before .before in
+      let unpack = told .before .before .before .before in
+      let lead = unpack .before in
       let a = lead .before .args in
       let d = lead .before .pre .1 in
       let l = due-leads (a .table .now .now) (a .clauses .now) (a .literals .now) (a .helpers .now) (a .node) (a .sign) (a .k)
-      (a .out .now) (a .at) d (lead .lead .result) Literal (lead .lead .ensures) (told .enum-told2 .given .1) in
+      (a .out .now) (a .at) d (unpack .unpack .result) Literal (unpack .unpack .ensures ∙ lead .lead .ensures .back) (told .enum-told2 .given .1) in
       record { fits = literal-end _ _ (l .1) _ (a .at) (d .fits) }
 
   left-next : write-own-lts.Need-write-requires (own-calls t) (write-own-at t) write-own.Post
   left-next c κs =
       let told = c .before in
-      let lead = told .before .before .before .before in
+      let unpack = told .before .before .before .before in
+      let lead = unpack .before in
       let a = lead .before .args in
       let d = lead .before .pre .1 in
       let l = due-leads (a .table .now .now) (a .clauses .now) (a .literals .now) (a .helpers .now) (a .node) (a .sign) (a .k)
-      (a .out .now) (a .at) d (lead .lead .result) Left (lead .lead .ensures) (told .enum-told3 .given .1) in (
+      (a .out .now) (a .at) d (unpack .unpack .result) Left (unpack .unpack .ensures ∙ lead .lead .ensures .back) (told .enum-told3 .given .1) in (
         omega (arith, lead .before .pre .0, l .0 .before),
         due-one (a .table .now .now) (a .clauses .now) (a .literals .now)
             (a .helpers .now) (a .node) (a .sign) (a .k) (a .out .now) (a .at) d _ (l .0) (l .1),
@@ -153,11 +163,12 @@ module _ (t : ℕ) where
   right-next : write-own-lts.Need-write-requires-2 (own-calls t) (write-own-at t) write-own.Post
   right-next c κs =
       let told = c .before in
-      let lead = told .before .before .before .before in
+      let unpack = told .before .before .before .before in
+      let lead = unpack .before in
       let a = lead .before .args in
       let d = lead .before .pre .1 in
       let l = due-leads (a .table .now .now) (a .clauses .now) (a .literals .now) (a .helpers .now) (a .node) (a .sign) (a .k)
-      (a .out .now) (a .at) d (lead .lead .result) Right (lead .lead .ensures) (told .enum-told4 .given .1) in (
+      (a .out .now) (a .at) d (unpack .unpack .result) Right (unpack .unpack .ensures ∙ lead .lead .ensures .back) (told .enum-told4 .given .1) in (
         omega (arith, lead .before .pre .0, l .0 .before),
         due-one (a .table .now .now) (a .clauses .now) (a .literals .now)
             (a .helpers .now) (a .node) (a .sign) (a .k) (a .out .now) (a .at) d _ (l .0) (l .1),
@@ -166,11 +177,12 @@ module _ (t : ℕ) where
   first-next : write-own-lts.Need-write-requires-3 (own-calls t) (write-own-at t) write-own.Post
   first-next c κs =
       let told = c .before in
-      let lead = told .before .before .before .before in
+      let unpack = told .before .before .before .before in
+      let lead = unpack .before in
       let a = lead .before .args in
       let d = lead .before .pre .1 in
       let l = due-leads (a .table .now .now) (a .clauses .now) (a .literals .now) (a .helpers .now) (a .node) (a .sign) (a .k)
-      (a .out .now) (a .at) d (lead .lead .result) Both (lead .lead .ensures) (told .enum-told5 .given .1) in (
+      (a .out .now) (a .at) d (unpack .unpack .result) Both (unpack .unpack .ensures ∙ lead .lead .ensures .back) (told .enum-told5 .given .1) in (
         omega (arith, lead .before .pre .0, l .0 .before),
         due-left (a .table .now .now) (a .clauses .now) (a .literals .now)
             (a .helpers .now) (a .node) (a .sign) (a .k) (a .out .now) (a .at) d _ _ (l .0) (l .1) (l .2),
@@ -179,11 +191,12 @@ module _ (t : ℕ) where
   second-next : write-own-lts.Need-write-requires-4 (own-calls t) (write-own-at t) write-own.Post
   second-next c κs =
       let told = c .before .before .before in
-      let lead = told .before .before .before .before in
+      let unpack = told .before .before .before .before in
+      let lead = unpack .before in
       let a = lead .before .args in
       let d = lead .before .pre .1 in
       let l = due-leads (a .table .now .now) (a .clauses .now) (a .literals .now) (a .helpers .now) (a .node) (a .sign) (a .k)
-      (a .out .now) (a .at) d (lead .lead .result) Both (lead .lead .ensures) (told .enum-told5 .given .1) in (
+      (a .out .now) (a .at) d (unpack .unpack .result) Both (unpack .unpack .ensures ∙ lead .lead .ensures .back) (told .enum-told5 .given .1) in (
         omega (arith, lead .before .pre .0, l .1 .before),
         due-right (a .table .now .now) (a .clauses .now) (a .literals .now) (a .helpers .now) (a .node) (a .sign) (a .k) (a .out .now)
             (a .at) d _ _ (l .0) (l .1) (l .2) _ _ (c .before .write3 .ensures),
@@ -192,54 +205,59 @@ module _ (t : ℕ) where
   nothing-written : write-own-lts.Need-returns (own-calls t) (write-own-at t) write-own.Post
   nothing-written c =
       let told = c in
-      let lead = told .before .before .before .before in
+      let unpack = told .before .before .before .before in
+      let lead = unpack .before in
       let a = lead .before .args in
       let d = lead .before .pre .1 in
       put-none (a .table .now .now) (a .clauses .now) (a .literals .now) (a .helpers .now) (a .node) (a .sign) (a .k) (a .out .now)
       (a .at) d (due-leads (a .table .now .now) (a .clauses .now) (a .literals .now) (a .helpers .now) (a .node) (a .sign) (a .k)
-      (a .out .now) (a .at) d (lead .lead .result) Nothing (lead .lead .ensures) (told .enum-told .given .1))
+      (a .out .now) (a .at) d (unpack .unpack .result) Nothing (unpack .unpack .ensures ∙ lead .lead .ensures .back) (told .enum-told .given .1))
 
   literal-written : write-own-lts.Need-returns-2 (own-calls t) (write-own-at t) write-own.Post
   literal-written c =
       let told = c .before .before .before in
-      let lead = told .before .before .before .before in
+      let unpack = told .before .before .before .before in
+      let lead = unpack .before in
       let a = lead .before .args in
       let d = lead .before .pre .1 in
       literal-put _ _ (due-leads (a .table .now .now) (a .clauses .now) (a .literals .now) (a .helpers .now) (a .node) (a .sign) (a .k)
-      (a .out .now) (a .at) d (lead .lead .result) Literal (lead .lead .ensures) (told .enum-told2 .given .1) .1) (a .out .now)
+      (a .out .now) (a .at) d (unpack .unpack .result) Literal (unpack .unpack .ensures ∙ lead .lead .ensures .back) (told .enum-told2 .given .1) .1) (a .out .now)
       (a .at) _ _
       (c .before .word .ensures) (c .put .ensures)
 
   left-written : write-own-lts.Need-returns-3 (own-calls t) (write-own-at t) write-own.Post
   left-written c =
       let told = c .before .before in
-      let lead = told .before .before .before .before in
+      let unpack = told .before .before .before .before in
+      let lead = unpack .before in
       let a = lead .before .args in
       let d = lead .before .pre .1 in
       let l = due-leads (a .table .now .now) (a .clauses .now) (a .literals .now) (a .helpers .now) (a .node) (a .sign) (a .k)
-      (a .out .now) (a .at) d (lead .lead .result) Left (lead .lead .ensures) (told .enum-told3 .given .1) in
+      (a .out .now) (a .at) d (unpack .unpack .result) Left (unpack .unpack .ensures ∙ lead .lead .ensures .back) (told .enum-told3 .given .1) in
       put-one (a .table .now .now) (a .clauses .now) (a .literals .now) (a .helpers .now) (a .node) (a .sign) (a .k) (a .out .now)
       (a .at) d _ (l .0) (l .1) _ _ (c .write .ensures)
 
   right-written : write-own-lts.Need-returns-4 (own-calls t) (write-own-at t) write-own.Post
   right-written c =
       let told = c .before .before in
-      let lead = told .before .before .before .before in
+      let unpack = told .before .before .before .before in
+      let lead = unpack .before in
       let a = lead .before .args in
       let d = lead .before .pre .1 in
       let l = due-leads (a .table .now .now) (a .clauses .now) (a .literals .now) (a .helpers .now) (a .node) (a .sign) (a .k)
-      (a .out .now) (a .at) d (lead .lead .result) Right (lead .lead .ensures) (told .enum-told4 .given .1) in
+      (a .out .now) (a .at) d (unpack .unpack .result) Right (unpack .unpack .ensures ∙ lead .lead .ensures .back) (told .enum-told4 .given .1) in
       put-one (a .table .now .now) (a .clauses .now) (a .literals .now) (a .helpers .now) (a .node) (a .sign) (a .k) (a .out .now)
       (a .at) d _ (l .0) (l .1) _ _ (c .write2 .ensures)
 
   both-written : write-own-lts.Need-returns-5 (own-calls t) (write-own-at t) write-own.Post
   both-written c =
       let told = c .before .before .before .before in
-      let lead = told .before .before .before .before in
+      let unpack = told .before .before .before .before in
+      let lead = unpack .before in
       let a = lead .before .args in
       let d = lead .before .pre .1 in
       let l = due-leads (a .table .now .now) (a .clauses .now) (a .literals .now) (a .helpers .now) (a .node) (a .sign) (a .k)
-      (a .out .now) (a .at) d (lead .lead .result) Both (lead .lead .ensures) (told .enum-told5 .given .1) in
+      (a .out .now) (a .at) d (unpack .unpack .result) Both (unpack .unpack .ensures ∙ lead .lead .ensures .back) (told .enum-told5 .given .1) in
       put-two (a .table .now .now) (a .clauses .now) (a .literals .now) (a .helpers .now) (a .node) (a .sign) (a .k) (a .out .now)
       (a .at) d _ _ (l .0) (l .1) (l .2) _ _ (c .before .before .write3 .ensures) _ _ (c .write4 .ensures)
 
@@ -258,6 +276,7 @@ pub +write+write-own-spec : {M : Type 1} → statement M
     (own-written t))
     (λ t. write-own-lts.spec (own-calls t) (write-own-at t) write-own.Post
     (lead-next t)
+    (λ c κs. search needs)
     (λ c. search needs)
     (λ c. search needs)
     (λ c. search needs)

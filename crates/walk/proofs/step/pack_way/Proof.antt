@@ -1,11 +1,11 @@
--- `literals::literal::pack` meets its contract: the sign is the last bit. Assumes nothing.
+-- `walk::step::pack_way` meets its contract: the sign is the last bit. Assumes nothing.
 use borrow.Author.Needs.{needs}
-use Rattle.origin.proofs.Laws.Ways.{packed-plain, packed-negated}
-use Rattle.origin.proofs.literal.pack.Statement.{statement}
-use Rattle.origin.proofs.literal.pack.Tie as tie
+use Rattle.walk.proofs.Laws.Packed.{packed-plain, packed-negated}
+use Rattle.walk.proofs.step.pack_way.Statement.{statement}
+use Rattle.walk.proofs.step.pack_way.Tie as tie
 
-pub pack-spec : {M : Type 1} → statement M
-pack-spec =
+pub pack-way-spec : {M : Type 1} → statement M
+pack-way-spec =
     tie.close
     (tie.spec
     (λ c. search needs)
