@@ -86,7 +86,9 @@ sources = record {
       (originSeen c .after) (originSeen c .before) (demand2 .origin c z .outputs)
       ∙ ap (fieldsFor g (optionNames c) (helperNames c) k) (sym (converted-clause d k y ∙ ap (λ (x : Guard). clauseOf x k) e));
   lines = λ c d z y e k h. let g = originsGuard c in let t = origins-done c z in
-      lines-said (g .table) (g .options) (g .set) (originsOptionNames c) (originsHelperNames c) (t .table) (t .set) (t .options) (t .helpers)
+      lines-said (g .table) (g .options) (g .set) (originsOptionNames c) (originsHelperNames c) (t .table) (t .set) (t .options)
+      (t .helpers)
       k _ (originsSeen c .after) (originsSeen c .before) h (demand2 .origins c z .outputs)
-      ∙ ap (fieldsFor g (originsOptionNames c) (originsHelperNames c) k) (sym (converted-clause d k y ∙ ap (λ (x : Guard). clauseOf x k) e));
+      ∙ ap (fieldsFor g (originsOptionNames c) (originsHelperNames c) k)
+      (sym (converted-clause d k y ∙ ap (λ (x : Guard). clauseOf x k) e));
 }

@@ -74,7 +74,8 @@ module _ (u : Renaming) (ns : List Node) where
   definitions-rise (suc n) =
       let e : 2 * n + 3 ≡ 2 * suc n + 1 = omega arith in
       subst (λ (c : ℕ). Rising 1 c (definitions clauses u ns n ++ definition clauses u ns n)) e
-      (rising-append 1 (2 * n + 1) (2 * n + 3) (definitions clauses u ns n) (definition clauses u ns n) (definitions-rise n) (definition-rises n))
+      (rising-append 1 (2 * n + 1) (2 * n + 3) (definitions clauses u ns n) (definition clauses u ns n) (definitions-rise n)
+      (definition-rises n))
 
   parts-rise : Rising 0 (2 * length ns + 1) parts
   parts-rise = (omega arith, definitions-rise (length ns))

@@ -86,7 +86,8 @@ fn put_literal<'a>(
 ) -> Pen
     requires { ⌜ Voiced (now «option_names») (now «helper_names») (now «option_notes») (now «helper_notes») options
         (record { plain = plain; variable = variable } ∷ []) (now out) pen ⌝ }
-    ensures { λ r. ⌜ Spoken (literalsText (nameOf (now («option_names» .entry)) (now («helper_names» .entry)) options) (record { plain = plain; variable = variable } ∷ []))
+    ensures { λ r. ⌜ Spoken (literalsText (nameOf (now («option_names» .entry)) (now («helper_names» .entry)) options)
+        (record { plain = plain; variable = variable } ∷ []))
         (now («option_names» .entry)) (now («helper_names» .entry)) options (now (out .entry)) pen
         (now («option_notes» .exit)) (now («helper_notes» .exit)) (now (out .exit)) r ⌝ }
 {
@@ -117,7 +118,8 @@ fn put_helper<'a>(
 ) -> Pen
     requires { ⌜ Voiced (now «option_names») (now «helper_names») (now «option_notes») (now «helper_notes») options
         (helperLiteral here plain helper) (now out) pen ⌝ }
-    ensures { λ r. ⌜ Spoken (literalsText (nameOf (now («option_names» .entry)) (now («helper_names» .entry)) options) (helperLiteral here plain helper))
+    ensures { λ r. ⌜ Spoken (literalsText (nameOf (now («option_names» .entry)) (now («helper_names» .entry)) options)
+        (helperLiteral here plain helper))
         (now («option_names» .entry)) (now («helper_names» .entry)) options (now (out .entry)) pen
         (now («option_notes» .exit)) (now («helper_notes» .exit)) (now (out .exit)) r ⌝ }
 {
@@ -329,7 +331,8 @@ pub fn put_lines<'a>(
     requires { ⌜ Known (now «option_names») (now «helper_names») (now «option_notes») (now «helper_notes») options ⌝ }
     ensures { λ r. ⌜ Spoken (linesFrom (nameOf (now («option_names» .entry)) (now («helper_names» .entry)) options)
         (renaming options (now (set .entry))) (nodesOf (now (now (table .entry)))) from (end - from))
-        (now («option_names» .entry)) (now («helper_names» .entry)) options (now (out .entry)) (record { at = 0; fits = true; writing = writing })
+        (now («option_names» .entry)) (now («helper_names» .entry)) options (now (out .entry))
+        (record { at = 0; fits = true; writing = writing })
         (now («option_notes» .exit)) (now («helper_notes» .exit)) (now (out .exit)) r ⌝ }
 {
     let mut pen = Pen {

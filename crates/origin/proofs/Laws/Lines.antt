@@ -27,7 +27,8 @@ use Rattle.walk.specs.Inner.Written.{Writable}
 use Rattle.convert.proofs.Laws.Written as written
 use Rattle.origin.specs.Origins.{Source, directionWord, shownLiteral, fieldsOf, lineText, lineOf}
 use Rattle.origin.specs.Inner.Grounds.{Ground, spotClause, spotSource, spotLine}
-use Rattle.origin.specs.Inner.Lines.{nameCount, sourceText, tabbed, literalsText, linesFrom, Ranged, Known, Voiced, Spoken, Spotted, Tellable}
+use Rattle.origin.specs.Inner.Lines.{nameCount, sourceText, tabbed, literalsText, linesFrom, Ranged}
+use Rattle.origin.specs.Inner.Lines.{Known, Voiced, Spoken, Spotted, Tellable}
 use Rattle.origin.specs.Inner.Pens.{Standing, Drawn}
 use Rattle.origin.specs.Inner.Spots.{directionOf, signOf, spot, countAt, startAt, Inside, Sought, Stood}
 use Rattle.origin.specs.Inner.Ways.{Startable}

@@ -207,7 +207,8 @@ module _ (alone : Bool) (u : Renaming) (ns : List Node) (k : ℕ) (ol hl before 
   pub lines-shown : (x : Wrote (List ℕ)) (total : ℕ) → total ≡ length (outputOf u ns) → alone ≡ false
       → x ≡ shownWith u ns ol hl (linesBetween ol hl u ns 0 total) before → x ≡ cond alone one all
   lines-shown x total e f h =
-      h ∙ ap (λ (l : List ℕ). shownWith u ns ol hl l before) (ap (linesBetween ol hl u ns 0) e ∙ all-lines name u ns (length (outputOf u ns)))
+      h ∙ ap (λ (l : List ℕ). shownWith u ns ol hl l before) (ap (linesBetween ol hl u ns 0) e ∙ all-lines name u ns
+      (length (outputOf u ns)))
       ∙ sym (ap (λ (b : Bool). cond b one all) f)
 
   module _ (total : ℕ) (e : total ≡ length (outputOf u ns)) (f : alone ≡ true) where

@@ -361,7 +361,8 @@ module _ (t : List ℕ) (v : ℕ) (marks s : List ℕ) (cs ls : List (List ℕ))
     pub spot-source : sourceOf u ns k ≡ spotSource name ns x
     spot-source =
         ap (sourceAt parts) (sym (stands-only parts k place stands))
-        ∙ ap (λ (p : Part (List Clause)). record { origin = p .origin; helper = p .helper; direction = p .direction; number = m }) part-there
+        ∙ ap (λ (p : Part (List Clause)). record { origin = p .origin; helper = p .helper; direction = p .direction; number = m })
+        part-there
         ∙ (λ j. record {
           origin = found .origin j;
           helper = found .helper j;

@@ -55,7 +55,8 @@ module _ (t s marks : List ℕ) (cs ls : List (List ℕ)) (blank : Blank t marks
     result : (b : Bool) → r ≡ b → sum ≡ cond b (asTotal (sizes .none)) (asTotal (totals (renaming 0 s) (nodesOf t)))
         → told ≡ preparedOf t s
     result b g h =
-        let same = h ∙ ap (λ (c : Bool). cond c (asTotal (sizes .none)) (asTotal (totals (renaming 0 s) (nodesOf t)))) (sym (checked b g)) in
+        let same = h ∙ ap (λ (c : Bool). cond c (asTotal (sizes .none)) (asTotal (totals (renaming 0 s) (nodesOf t))))
+        (sym (checked b g)) in
         λ i. record { right = e i; sum = same i }
 
     pub set-refused : r ≡ true → sum ≡ asTotal (sizes .none) → Prepares t s told after cs ls

@@ -14,8 +14,10 @@ use Rattle.formula.specs.declared.node.Kind.{Kind}
 use Rattle.formula.specs.declared.node.Kind.the-variants as kind
 use Rattle.formula.specs.declared.node.Node.{Node}
 use Rattle.walk.specs.Inner.Lists.{signed, pairIn}
-use Rattle.walk.specs.Inner.Packed.{packed, wayOf, Packable, packedBy, packedStep, stepOf, Made, nothing, literal, left, right, both, Led}
-use Rattle.walk.specs.Inner.Steps.{none, literalOf, leftOf, rightOf, bothOf, way, countIn, catStep, joinStep, joinsStep, stepBy, leadStep}
+use Rattle.walk.specs.Inner.Packed.{packed, wayOf, Packable, packedBy, packedStep, stepOf, Made}
+use Rattle.walk.specs.Inner.Packed.{nothing, literal, left, right, both, Led}
+use Rattle.walk.specs.Inner.Steps.{none, literalOf, leftOf, rightOf, bothOf, way}
+use Rattle.walk.specs.Inner.Steps.{countIn, catStep, joinStep, joinsStep, stepBy, leadStep}
 use Rattle.walk.specs.Inner.Steps.{Walkable}
 use Rattle.walk.specs.declared.step.Parts.the-variants as parts
 use Rattle.walk.specs.declared.step.Parts.{Parts}

@@ -8,7 +8,8 @@ use Rattle.formula.specs.Tables.{nodesOf}
 use Rattle.formula.specs.declared.node.Node.{Node}
 use Rattle.clausal.specs.Clauses.{Renaming, renaming}
 use Rattle.origin.specs.Inner.Shown.{linesBetween}
-use Rattle.origin.proofs.Laws.Shown.{listed-unnamed, count-is, reported-last, writing, options-wrong, helpers-wrong, no-room, all-shown}
+use Rattle.origin.proofs.Laws.Shown.{listed-unnamed, count-is, reported-last, writing}
+use Rattle.origin.proofs.Laws.Shown.{options-wrong, helpers-wrong, no-room, all-shown}
 use Rattle.origin.proofs.calls.name_lines.Statement.{statement}
 use Rattle.origin.proofs.calls.name_lines.Tie as tie
 

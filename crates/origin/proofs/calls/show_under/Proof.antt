@@ -75,7 +75,8 @@ behind c x e =
     let if1 = test .before .before .before in
     let made = if1 .before .before in
     let a = began made .args in
-    accepted-wrote _ _ _ (right-is _ _ _ _ _ _ (made .prepare .ensures)) (if1 .before .is-refusal .ensures) (a .out .now) _ _ (if1 .if1 .left)
+    accepted-wrote _ _ _ (right-is _ _ _ _ _ _ (made .prepare .ensures)) (if1 .before .is-refusal .ensures) (a .out .now) _ _
+    (if1 .if1 .left)
     (accepted-wrote _ _ _ (sums (test .before)) (test .is-refusal2 .ensures) (a .out .now) _ _ (c .if2 .left) e)
     ∙ shown-counted (a .alone) (u (began made)) (ns (began made)) (a .clause) (a .option-names .now) (a .helper-names .now) (a .out .now)
 
@@ -92,7 +93,8 @@ ceilings-refused c =
     let if1 = test .before .before .before in
     let made = if1 .before .before in
     let a = began made .args in
-    accepted-wrote _ _ _ (right-is _ _ _ _ _ _ (made .prepare .ensures)) (if1 .before .is-refusal .ensures) (a .out .now) _ _ (if1 .if1 .left)
+    accepted-wrote _ _ _ (right-is _ _ _ _ _ _ (made .prepare .ensures)) (if1 .before .is-refusal .ensures) (a .out .now) _ _
+    (if1 .if1 .left)
     (refused-wrote _ _ _ (sums (test .before)) (test .is-refusal2 .ensures) (a .out .now) _ (c .if2 .taken))
     ∙ shown-counted (a .alone) (u (began made)) (ns (began made)) (a .clause) (a .option-names .now) (a .helper-names .now) (a .out .now)
 

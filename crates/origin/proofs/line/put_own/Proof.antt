@@ -13,7 +13,8 @@ abbrev Inv-loop : tie.InvT-loop
 Inv-loop table clauses literals helpers option-names helper-names option-notes₀ helper-notes₀ options node sign k out₀ ways₀ next-pen₀
     found₀ option-notes helper-notes out ways next-pen found =
     Saying (table .now) clauses literals helpers option-names helper-names options
-    (getD (ownList (namesIn helpers) (nodesOf (table .now)) node sign) k []) out₀ next-pen₀ option-notes helper-notes out ways next-pen found
+    (getD (ownList (namesIn helpers) (nodesOf (table .now)) node sign) k []) out₀ next-pen₀ option-notes helper-notes out ways next-pen
+    found
 
 abbrev μ-loop : tie.MeasureT-loop
 μ-loop table clauses literals helpers option-names helper-names option-notes₀ helper-notes₀ options node sign k out₀ ways₀ next-pen₀

@@ -87,7 +87,8 @@ nothing-opened c =
     open-nothing (a .table .now .now) (a .clauses .now) (a .literals .now) (a .helpers .now) (a .ways .now) (a .depth) (a .way)
     (start .pre) _
     (open-leads (a .table .now .now) (a .clauses .now) (a .literals .now) (a .helpers .now) (a .ways .now) (a .depth) (a .way)
-    (start .pre) (unpack .unpack .result) Nothing (unpack .unpack .ensures ∙ lead .lead .ensures .back) (told .enum-told .given .1)) (c .nothing .ensures)
+    (start .pre) (unpack .unpack .result) Nothing (unpack .unpack .ensures ∙ lead .lead .ensures .back) (told .enum-told .given .1))
+    (c .nothing .ensures)
 
 literal-opened : tie.Need-returns-2
 literal-opened c =

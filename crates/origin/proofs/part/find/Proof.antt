@@ -1,7 +1,8 @@
 -- `origin::part::find` meets its contract. The loop's invariant: the clause stands as many clauses behind the part as `number` says.
 -- The measure is the number of parts that are left. Assumes nothing.
 use lib.ListN.{length}
-use Rattle.origin.proofs.Laws.Spots.{partsLeft, inside-few, Seeking, seeking-start, seeking-few, seeking-found, seeking-on, seeking-next}
+use Rattle.origin.proofs.Laws.Spots.{partsLeft, inside-few, Seeking, seeking-start}
+use Rattle.origin.proofs.Laws.Spots.{seeking-few, seeking-found, seeking-on, seeking-next}
 use Rattle.origin.proofs.Laws.Spots.{seeking-less}
 use Rattle.origin.proofs.part.find.Statement.{statement}
 use Rattle.origin.proofs.part.find.Tie as tie

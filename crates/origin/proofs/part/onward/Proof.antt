@@ -10,17 +10,20 @@ use Rattle.origin.proofs.part.onward.Tie as tie
 behind-root : tie.Need-returns
 behind-root c =
     let start = c .before .before .before in
-    sym (ap (λ (d : Direction). onwardOf d (start .args .spot .node) (start .args .spot .number - start .args .each)) (c .enum-told .given .1))
+    sym (ap (λ (d : Direction). onwardOf d (start .args .spot .node) (start .args .spot .number - start .args .each))
+    (c .enum-told .given .1))
 
 behind-down : tie.Need-returns-2
 behind-down c =
     let start = c .before .before .before in
-    sym (ap (λ (d : Direction). onwardOf d (start .args .spot .node) (start .args .spot .number - start .args .each)) (c .enum-told2 .given .1))
+    sym (ap (λ (d : Direction). onwardOf d (start .args .spot .node) (start .args .spot .number - start .args .each))
+    (c .enum-told2 .given .1))
 
 behind-up : tie.Need-returns-3
 behind-up c =
     let start = c .before .before .before in
-    sym (ap (λ (d : Direction). onwardOf d (start .args .spot .node) (start .args .spot .number - start .args .each)) (c .enum-told3 .given .1))
+    sym (ap (λ (d : Direction). onwardOf d (start .args .spot .node) (start .args .spot .number - start .args .each))
+    (c .enum-told3 .given .1))
 
 pub onward-spec : {M : Type 1} → statement M
 onward-spec =

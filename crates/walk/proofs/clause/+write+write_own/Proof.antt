@@ -133,7 +133,8 @@ module _ (t : ℕ) where
       let a = lead .before .args in
       let d = lead .before .pre .1 in
       literal-room _ _ (due-leads (a .table .now .now) (a .clauses .now) (a .literals .now) (a .helpers .now) (a .node) (a .sign) (a .k)
-      (a .out .now) (a .at) d (unpack .unpack .result) Literal (unpack .unpack .ensures ∙ lead .lead .ensures .back) (told .enum-told2 .given .1) .1) _ (a .at) (d .fits)
+      (a .out .now) (a .at) d (unpack .unpack .result) Literal (unpack .unpack .ensures ∙ lead .lead .ensures .back)
+      (told .enum-told2 .given .1) .1) _ (a .at) (d .fits)
 
   literal-fits : write-own-lts.Need-add-result (own-calls t) (write-own-at t) write-own.Post
   literal-fits c =
@@ -143,7 +144,8 @@ module _ (t : ℕ) where
       let a = lead .before .args in
       let d = lead .before .pre .1 in
       let l = due-leads (a .table .now .now) (a .clauses .now) (a .literals .now) (a .helpers .now) (a .node) (a .sign) (a .k)
-      (a .out .now) (a .at) d (unpack .unpack .result) Literal (unpack .unpack .ensures ∙ lead .lead .ensures .back) (told .enum-told2 .given .1) in
+      (a .out .now) (a .at) d (unpack .unpack .result) Literal (unpack .unpack .ensures ∙ lead .lead .ensures .back)
+      (told .enum-told2 .given .1) in
       record { fits = literal-end _ _ (l .1) _ (a .at) (d .fits) }
 
   left-next : write-own-lts.Need-write-requires (own-calls t) (write-own-at t) write-own.Post
@@ -154,7 +156,8 @@ module _ (t : ℕ) where
       let a = lead .before .args in
       let d = lead .before .pre .1 in
       let l = due-leads (a .table .now .now) (a .clauses .now) (a .literals .now) (a .helpers .now) (a .node) (a .sign) (a .k)
-      (a .out .now) (a .at) d (unpack .unpack .result) Left (unpack .unpack .ensures ∙ lead .lead .ensures .back) (told .enum-told3 .given .1) in (
+      (a .out .now) (a .at) d (unpack .unpack .result) Left (unpack .unpack .ensures ∙ lead .lead .ensures .back)
+      (told .enum-told3 .given .1) in (
         omega (arith, lead .before .pre .0, l .0 .before),
         due-one (a .table .now .now) (a .clauses .now) (a .literals .now)
             (a .helpers .now) (a .node) (a .sign) (a .k) (a .out .now) (a .at) d _ (l .0) (l .1),
@@ -168,7 +171,8 @@ module _ (t : ℕ) where
       let a = lead .before .args in
       let d = lead .before .pre .1 in
       let l = due-leads (a .table .now .now) (a .clauses .now) (a .literals .now) (a .helpers .now) (a .node) (a .sign) (a .k)
-      (a .out .now) (a .at) d (unpack .unpack .result) Right (unpack .unpack .ensures ∙ lead .lead .ensures .back) (told .enum-told4 .given .1) in (
+      (a .out .now) (a .at) d (unpack .unpack .result) Right (unpack .unpack .ensures ∙ lead .lead .ensures .back)
+      (told .enum-told4 .given .1) in (
         omega (arith, lead .before .pre .0, l .0 .before),
         due-one (a .table .now .now) (a .clauses .now) (a .literals .now)
             (a .helpers .now) (a .node) (a .sign) (a .k) (a .out .now) (a .at) d _ (l .0) (l .1),
@@ -182,7 +186,8 @@ module _ (t : ℕ) where
       let a = lead .before .args in
       let d = lead .before .pre .1 in
       let l = due-leads (a .table .now .now) (a .clauses .now) (a .literals .now) (a .helpers .now) (a .node) (a .sign) (a .k)
-      (a .out .now) (a .at) d (unpack .unpack .result) Both (unpack .unpack .ensures ∙ lead .lead .ensures .back) (told .enum-told5 .given .1) in (
+      (a .out .now) (a .at) d (unpack .unpack .result) Both (unpack .unpack .ensures ∙ lead .lead .ensures .back)
+      (told .enum-told5 .given .1) in (
         omega (arith, lead .before .pre .0, l .0 .before),
         due-left (a .table .now .now) (a .clauses .now) (a .literals .now)
             (a .helpers .now) (a .node) (a .sign) (a .k) (a .out .now) (a .at) d _ _ (l .0) (l .1) (l .2),
@@ -196,7 +201,8 @@ module _ (t : ℕ) where
       let a = lead .before .args in
       let d = lead .before .pre .1 in
       let l = due-leads (a .table .now .now) (a .clauses .now) (a .literals .now) (a .helpers .now) (a .node) (a .sign) (a .k)
-      (a .out .now) (a .at) d (unpack .unpack .result) Both (unpack .unpack .ensures ∙ lead .lead .ensures .back) (told .enum-told5 .given .1) in (
+      (a .out .now) (a .at) d (unpack .unpack .result) Both (unpack .unpack .ensures ∙ lead .lead .ensures .back)
+      (told .enum-told5 .given .1) in (
         omega (arith, lead .before .pre .0, l .1 .before),
         due-right (a .table .now .now) (a .clauses .now) (a .literals .now) (a .helpers .now) (a .node) (a .sign) (a .k) (a .out .now)
             (a .at) d _ _ (l .0) (l .1) (l .2) _ _ (c .before .write3 .ensures),
@@ -211,7 +217,8 @@ module _ (t : ℕ) where
       let d = lead .before .pre .1 in
       put-none (a .table .now .now) (a .clauses .now) (a .literals .now) (a .helpers .now) (a .node) (a .sign) (a .k) (a .out .now)
       (a .at) d (due-leads (a .table .now .now) (a .clauses .now) (a .literals .now) (a .helpers .now) (a .node) (a .sign) (a .k)
-      (a .out .now) (a .at) d (unpack .unpack .result) Nothing (unpack .unpack .ensures ∙ lead .lead .ensures .back) (told .enum-told .given .1))
+      (a .out .now) (a .at) d (unpack .unpack .result) Nothing (unpack .unpack .ensures ∙ lead .lead .ensures .back)
+      (told .enum-told .given .1))
 
   literal-written : write-own-lts.Need-returns-2 (own-calls t) (write-own-at t) write-own.Post
   literal-written c =
@@ -221,7 +228,8 @@ module _ (t : ℕ) where
       let a = lead .before .args in
       let d = lead .before .pre .1 in
       literal-put _ _ (due-leads (a .table .now .now) (a .clauses .now) (a .literals .now) (a .helpers .now) (a .node) (a .sign) (a .k)
-      (a .out .now) (a .at) d (unpack .unpack .result) Literal (unpack .unpack .ensures ∙ lead .lead .ensures .back) (told .enum-told2 .given .1) .1) (a .out .now)
+      (a .out .now) (a .at) d (unpack .unpack .result) Literal (unpack .unpack .ensures ∙ lead .lead .ensures .back)
+      (told .enum-told2 .given .1) .1) (a .out .now)
       (a .at) _ _
       (c .before .word .ensures) (c .put .ensures)
 
@@ -233,7 +241,8 @@ module _ (t : ℕ) where
       let a = lead .before .args in
       let d = lead .before .pre .1 in
       let l = due-leads (a .table .now .now) (a .clauses .now) (a .literals .now) (a .helpers .now) (a .node) (a .sign) (a .k)
-      (a .out .now) (a .at) d (unpack .unpack .result) Left (unpack .unpack .ensures ∙ lead .lead .ensures .back) (told .enum-told3 .given .1) in
+      (a .out .now) (a .at) d (unpack .unpack .result) Left (unpack .unpack .ensures ∙ lead .lead .ensures .back)
+      (told .enum-told3 .given .1) in
       put-one (a .table .now .now) (a .clauses .now) (a .literals .now) (a .helpers .now) (a .node) (a .sign) (a .k) (a .out .now)
       (a .at) d _ (l .0) (l .1) _ _ (c .write .ensures)
 
@@ -245,7 +254,8 @@ module _ (t : ℕ) where
       let a = lead .before .args in
       let d = lead .before .pre .1 in
       let l = due-leads (a .table .now .now) (a .clauses .now) (a .literals .now) (a .helpers .now) (a .node) (a .sign) (a .k)
-      (a .out .now) (a .at) d (unpack .unpack .result) Right (unpack .unpack .ensures ∙ lead .lead .ensures .back) (told .enum-told4 .given .1) in
+      (a .out .now) (a .at) d (unpack .unpack .result) Right (unpack .unpack .ensures ∙ lead .lead .ensures .back)
+      (told .enum-told4 .given .1) in
       put-one (a .table .now .now) (a .clauses .now) (a .literals .now) (a .helpers .now) (a .node) (a .sign) (a .k) (a .out .now)
       (a .at) d _ (l .0) (l .1) _ _ (c .write2 .ensures)
 
@@ -257,7 +267,8 @@ module _ (t : ℕ) where
       let a = lead .before .args in
       let d = lead .before .pre .1 in
       let l = due-leads (a .table .now .now) (a .clauses .now) (a .literals .now) (a .helpers .now) (a .node) (a .sign) (a .k)
-      (a .out .now) (a .at) d (unpack .unpack .result) Both (unpack .unpack .ensures ∙ lead .lead .ensures .back) (told .enum-told5 .given .1) in
+      (a .out .now) (a .at) d (unpack .unpack .result) Both (unpack .unpack .ensures ∙ lead .lead .ensures .back)
+      (told .enum-told5 .given .1) in
       put-two (a .table .now .now) (a .clauses .now) (a .literals .now) (a .helpers .now) (a .node) (a .sign) (a .k) (a .out .now)
       (a .at) d _ _ (l .0) (l .1) (l .2) _ _ (c .before .before .write3 .ensures) _ _ (c .write4 .ensures)
 
