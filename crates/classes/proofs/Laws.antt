@@ -1,0 +1,2 @@
+-- Laws of the classes, by subject.
+pub mod Classes
