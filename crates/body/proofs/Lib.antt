@@ -1,4 +1,3 @@
 -- Laws and theorems of the reader behind a header.
 pub mod Laws
 pub mod Cases
-pub mod NoChoice

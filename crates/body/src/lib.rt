@@ -1,9 +1,6 @@
 // The lines behind the header of a DIMACS text, read byte by byte: literals and zeros, counted against what the header declares.
-mod class;
 mod phase;
 mod state;
 
 pub use phase::Phase;
-pub use phase::Token;
 pub use state::State;
-pub use state::Stepped;

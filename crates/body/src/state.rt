@@ -1,20 +1,17 @@
-// The reader's state behind the header: it goes in by value with each byte, and the advanced state comes back.
+// The reader's state behind the header: it goes in by value with each byte, and the advanced state comes back. There is a method for
+// each thing that a byte can do, and each is one byte on. (One method for all of them, which picks by phase and class, is too long to be
+// made part of the loops that call it.)
 ghost use mathlib.Core.Path.{_≡_};
-ghost use Prim.Native.Nat.{_<_};
+ghost use Prim.Native.Nat.{_<_, _-_};
 ghost use Rattle.header.specs.Inner.Heads.{lastPlace};
-ghost use Rattle.body.specs.Inner.States.{startOf, toOf, deadOf, takenOf, closeOf, openOf, begunOf, turnOf, moveOf, steppedOf};
-ghost use Rattle.body.specs.Inner.States.{accepts};
-use crate::class::class_of;
-use crate::phase::Act;
+ghost use Rattle.body.specs.Inner.Table.{Begin, Lead, Grow, isDead, isNumber, isPlain};
+ghost use Rattle.body.specs.Inner.States.{startOf, toOf, deadOf, closeOf, openOf, turnOf, moveOf, accepts, Digit};
 use crate::phase::Phase;
-use crate::phase::Token;
-use crate::phase::act_of;
 use crate::phase::ends_in;
-use crate::phase::token_of;
+use crate::phase::is_dead;
+use crate::phase::is_number;
+use crate::phase::is_plain;
 use clausebytes::limits::MOST_LITERALS;
-use text::number::Number;
-use text::number::digit_of;
-use text::number::grown;
 
 pub struct State {
     pub phase: Phase,
@@ -29,12 +26,6 @@ pub struct State {
     pub clauses: u32,
     // The literal total: literals begun so far.
     pub literals: u32,
-}
-
-// What is handed back with a byte.
-pub struct Stepped {
-    pub state: State,
-    pub token: Token,
 }
 
 impl State {
@@ -64,6 +55,30 @@ impl State {
         false
     }
 
+    // Whether no accepted text begins so.
+    pub fn is_dead(self) -> bool
+        ensures { λ r. ⌜ r ≡ isDead (self .phase) ⌝ }
+    {
+        let phase = self.phase;
+        is_dead(phase)
+    }
+
+    // Whether it is in the digits of a literal.
+    pub fn is_number(self) -> bool
+        ensures { λ r. ⌜ r ≡ isNumber (self .phase) ⌝ }
+    {
+        let phase = self.phase;
+        is_number(phase)
+    }
+
+    // Whether it is in the digits of a literal without `-`.
+    pub fn is_plain(self) -> bool
+        ensures { λ r. ⌜ r ≡ isPlain (self .phase) ⌝ }
+    {
+        let phase = self.phase;
+        is_plain(phase)
+    }
+
     // One byte on, to a phase, with what is read of a literal there.
     fn to(self, phase: Phase, value: u32) -> State
         requires { ⌜ self .place < lastPlace ⌝ }
@@ -81,7 +96,7 @@ impl State {
     }
 
     // No accepted text goes on so: the place stays.
-    fn dead(self) -> State
+    pub fn dead(self) -> State
         ensures { λ r. ⌜ r ≡ deadOf self ⌝ }
     {
         State {
@@ -95,19 +110,16 @@ impl State {
         }
     }
 
-    // A digit was taken in, or could not be.
-    fn taken(self, phase: Phase, number: Number) -> State
+    // White space.
+    pub fn pass(self) -> State
         requires { ⌜ self .place < lastPlace ⌝ }
-        ensures { λ r. ⌜ r ≡ takenOf self phase number ⌝ }
+        ensures { λ r. ⌜ r ≡ toOf self Phase.Between 0 ⌝ }
     {
-        match number {
-            Number::Wrong => self.dead(),
-            Number::Is(value) => self.to(phase, value),
-        }
+        self.to(Phase::Between, 0)
     }
 
     // A zero closes a clause, if one is still to come.
-    fn close(self) -> State
+    pub fn close(self) -> State
         requires { ⌜ self .place < lastPlace ⌝ }
         ensures { λ r. ⌜ r ≡ closeOf self ⌝ }
     {
@@ -149,19 +161,20 @@ impl State {
         }
     }
 
-    // The first digit of a literal without `-` was taken in, or could not be.
-    fn begun(self, number: Number) -> State
-        requires { ⌜ self .place < lastPlace ⌝ }
-        ensures { λ r. ⌜ r ≡ begunOf self number ⌝ }
+    // The first digit of a literal without `-`.
+    pub fn begin(self, byte: u8) -> State
+        requires { ⌜ Digit self byte ⌝ }
+        ensures { λ r. ⌜ r ≡ moveOf Begin self (byte - 48) ⌝ }
     {
-        match number {
-            Number::Wrong => self.dead(),
-            Number::Is(value) => self.open(Phase::Plain, value),
+        let digit = byte as u32 - 48;
+        if digit > self.variables {
+            return self.dead();
         }
+        self.open(Phase::Plain, digit)
     }
 
     // The `-` of a literal, which needs a variable.
-    fn turn(self) -> State
+    pub fn turn(self) -> State
         requires { ⌜ self .place < lastPlace ⌝ }
         ensures { λ r. ⌜ r ≡ turnOf self ⌝ }
     {
@@ -171,34 +184,31 @@ impl State {
         self.open(Phase::Sign, 0)
     }
 
-    // Does what an act says.
-    fn follow(self, act: Act, digit: u32) -> State
-        requires { ⌜ self .place < lastPlace ⌝ }
-        ensures { λ r. ⌜ r ≡ moveOf act self digit ⌝ }
+    // The digit behind it.
+    pub fn lead(self, byte: u8) -> State
+        requires { ⌜ Digit self byte ⌝ }
+        ensures { λ r. ⌜ r ≡ moveOf Lead self (byte - 48) ⌝ }
     {
-        let phase = self.phase;
-        match act {
-            Act::Die => self.dead(),
-            Act::Go => self.to(Phase::Between, 0),
-            Act::Close => self.close(),
-            Act::Begin => self.begun(grown(false, 0, digit, self.variables)),
-            Act::Turn => self.turn(),
-            Act::Lead => self.taken(Phase::Negated, grown(false, 0, digit, self.variables)),
-            Act::Grow => self.taken(phase, grown(true, self.value, digit, self.variables)),
-            Act::EndPlain => self.to(Phase::Between, 0),
-            Act::EndNegated => self.to(Phase::Between, 0),
+        let digit = byte as u32 - 48;
+        if digit > self.variables {
+            return self.dead();
         }
+        self.to(Phase::Negated, digit)
     }
 
-    // One byte on: hands back the advanced state, and what is complete with the byte.
-    pub fn step(self, byte: u8) -> Stepped
-        requires { ⌜ self .place < lastPlace ⌝ }
-        ensures { λ r. ⌜ r ≡ steppedOf self byte ⌝ }
+    // A further digit of a literal.
+    pub fn grow(self, byte: u8) -> State
+        requires { ⌜ Digit self byte ⌝ }
+        ensures { λ r. ⌜ r ≡ moveOf Grow self (byte - 48) ⌝ }
     {
         let phase = self.phase;
-        let act = act_of(phase, class_of(byte));
-        let state = self.follow(act, digit_of(byte));
-        let token = token_of(act);
-        Stepped { state, token }
+        if self.value == 0 {
+            return self.dead();
+        }
+        let next = (self.value as u64) * 10 + (byte as u64 - 48);
+        if next > self.variables as u64 {
+            return self.dead();
+        }
+        self.to(phase, next as u32)
     }
 }

@@ -78,7 +78,8 @@ fn cnf_form() -> Form
 pub fn read(text: &[u8], clauses: &mut [u8]) -> Answer
     ensures { λ r. ⌜ record { answer = r; output = now (clauses .exit) } ≡ readCall (now (text .entry)) (now (clauses .entry)) ⌝ }
 {
-    let head = header::read(text, cnf_form());
+    let classes = classes::classes();
+    let head = header::read(&classes, text, cnf_form());
     let from = head.place;
     if !head.is_done() {
         return Answer::Text { place: from };
@@ -86,14 +87,14 @@ pub fn read(text: &[u8], clauses: &mut [u8]) -> Answer
     let variables = head.before;
     let declared = head.value;
     let start = State::start(from, variables, declared);
-    let end = reader::walk(text, from, start, false, clauses);
+    let end = reader::walk(&classes, text, start, false, clauses);
     if !end.is_accepted() {
         return Answer::Text { place: end.place };
     }
     if clauses.len() < room(declared, end.literals) {
         return Answer::Room;
     }
-    reader::walk(text, from, start, true, clauses);
+    reader::walk(&classes, text, start, true, clauses);
     Answer::Accepted {
         first: variables,
         second: declared,

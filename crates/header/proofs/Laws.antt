@@ -2,3 +2,4 @@
 pub mod Readers
 pub mod Heads
 pub mod Steps
+pub mod Reading

@@ -26,13 +26,13 @@ pub head-is-done-settled : (κs : Lfts 0) (a : Dens κs head-is-done-kinds.ps) (
     → r ≡ q
 head-is-done-settled κs a r q s t e f = e ∙ sym f
 
-pub head-step-settled : (κs : Lfts 0) (a : Dens κs head-step-kinds.ps) (r q : resT head-step-kinds.r κs .Denot)
-    (s t : AtExit (endedOf 0 head-step-kinds.ps head-step-kinds.r) κs) → head-step.Post κs a r s
+pub head-step-settled : (κs : Lfts 1) (a : Dens κs head-step-kinds.ps) (r q : resT head-step-kinds.r κs .Denot)
+    (s t : AtExit (endedOf 1 head-step-kinds.ps head-step-kinds.r) κs) → head-step.Post κs a r s
     → head-step.Post κs a q t
     → r ≡ q
 head-step-settled κs a r q s t e f = e ∙ sym f
 
-pub read-settled : (κs : Lfts 1) (a : Dens κs read-kinds.ps) (r q : resT read-kinds.r κs .Denot)
-    (s t : AtExit (endedOf 1 read-kinds.ps read-kinds.r) κs) → read.Post κs a r s → read.Post κs a q t
+pub read-settled : (κs : Lfts 2) (a : Dens κs read-kinds.ps) (r q : resT read-kinds.r κs .Denot)
+    (s t : AtExit (endedOf 2 read-kinds.ps read-kinds.r) κs) → read.Post κs a r s → read.Post κs a q t
     → r ≡ q
 read-settled κs a r q s t e f = e ∙ sym f

@@ -1,12 +1,19 @@
 // The head of a DIMACS text, comments and a header line, for any word of three letters and one number or two.
 ghost use mathlib.Core.Path.{_≡_};
 ghost use Prim.Native.Nat.{_<_};
-ghost use Rattle.header.specs.Inner.Heads.{lastPlace, isBlank, isDone, isOver, startOf, toOf, deadOf, goOf, takenOf, mostOf, lineOf};
-ghost use Rattle.header.specs.Inner.Heads.{commentOf, beforeWordOf, beforeNumberOf, spaceOf, numberIn, afterOf, stepAt, stepOf, headOf};
+ghost use lib.Dec.{eqb};
+ghost use Rattle.text.specs.Inner.Numbers.{isDigit};
+ghost use Rattle.classes.specs.Classes.{table};
+ghost use Rattle.header.specs.Inner.Heads.{lastPlace, isBlank, isDone, isOver, isCommentAt, isComment, startOf, toOf, deadOf, goOf};
+ghost use Rattle.header.specs.Inner.Heads.{takenOf, mostOf, lineOf, commentOf, beforeWordOf, beforeNumberOf, spaceOf, numberIn};
+ghost use Rattle.header.specs.Inner.Heads.{afterOf, stepAt, stepOf, headOf, Ready, ReadyFor, ReadyIn, Readable};
+use classes::BLANK;
+use classes::NEWLINE;
+use classes::is_letter;
+use classes::is_of;
 use text::number::Number;
 use text::number::digit_of;
 use text::number::grown;
-use text::number::is_digit;
 
 // Where in the head the reader is.
 pub enum Spot {
@@ -65,13 +72,45 @@ pub struct Head {
 }
 
 // Whether a byte is a space or a tab.
-fn is_blank(byte: u8) -> bool
+fn is_blank(classes: &[u8], byte: u8) -> bool
+    requires { ⌜ now classes ≡ table ⌝ }
     ensures { λ r. ⌜ r ≡ isBlank byte ⌝ }
 {
-    if byte == 32 {
-        return true;
+    is_of(classes, byte, BLANK)
+}
+
+// Whether a byte is a newline.
+fn is_newline(classes: &[u8], byte: u8) -> bool
+    requires { ⌜ now classes ≡ table ⌝ }
+    ensures { λ r. ⌜ r ≡ eqb byte 10 ⌝ }
+{
+    is_of(classes, byte, NEWLINE)
+}
+
+// Whether a byte is a digit.
+fn is_digit(classes: &[u8], byte: u8) -> bool
+    requires { ⌜ now classes ≡ table ⌝ }
+    ensures { λ r. ⌜ r ≡ isDigit byte ⌝ }
+{
+    classes::is_digit(classes, byte)
+}
+
+// Whether a spot is in a comment.
+fn is_comment_at(spot: Spot) -> bool
+    ensures { λ r. ⌜ r ≡ isCommentAt spot ⌝ }
+{
+    match spot {
+        Spot::Line => false,
+        Spot::Comment => true,
+        Spot::Problem => false,
+        Spot::BeforeWord => false,
+        Spot::Second => false,
+        Spot::Third => false,
+        Spot::Word => false,
+        Spot::BeforeNumber => false,
+        Spot::Number => false,
+        Spot::After => false,
     }
-    byte == 9
 }
 
 impl Head {
@@ -109,6 +148,18 @@ impl Head {
             Phase::At(_) => false,
             Phase::Done => true,
             Phase::Dead => true,
+        }
+    }
+
+    // Whether the head is in a comment.
+    fn is_comment(self) -> bool
+        ensures { λ r. ⌜ r ≡ isComment (self .phase) ⌝ }
+    {
+        let phase = self.phase;
+        match phase {
+            Phase::At(spot) => is_comment_at(spot),
+            Phase::Done => false,
+            Phase::Dead => false,
         }
     }
 
@@ -178,47 +229,47 @@ impl Head {
     }
 
     // At the start of a line.
-    fn line(self, byte: u8) -> Head
-        requires { ⌜ self .place < lastPlace ⌝ }
+    fn line(self, classes: &[u8], byte: u8) -> Head
+        requires { ⌜ Ready (now classes) (self .place) ⌝ }
         ensures { λ r. ⌜ r ≡ lineOf self byte ⌝ }
     {
-        if byte == 99 {
+        if is_letter(classes, byte, 99) {
             return self.to(Phase::At(Spot::Comment));
         }
-        self.go(byte == 112, Phase::At(Spot::Problem))
+        self.go(is_letter(classes, byte, 112), Phase::At(Spot::Problem))
     }
 
     // In a comment.
-    fn comment(self, byte: u8) -> Head
-        requires { ⌜ self .place < lastPlace ⌝ }
+    fn comment(self, classes: &[u8], byte: u8) -> Head
+        requires { ⌜ Ready (now classes) (self .place) ⌝ }
         ensures { λ r. ⌜ r ≡ commentOf self byte ⌝ }
     {
-        if byte == 10 {
+        if is_newline(classes, byte) {
             return self.to(Phase::At(Spot::Line));
         }
         self.to(Phase::At(Spot::Comment))
     }
 
     // Between `p` and the word.
-    fn before_word(self, byte: u8, letter: u8) -> Head
-        requires { ⌜ self .place < lastPlace ⌝ }
+    fn before_word(self, classes: &[u8], byte: u8, letter: u8) -> Head
+        requires { ⌜ ReadyFor (now classes) letter (self .place) ⌝ }
         ensures { λ r. ⌜ r ≡ beforeWordOf self byte letter ⌝ }
     {
-        if is_blank(byte) {
+        if is_blank(classes, byte) {
             return self.to(Phase::At(Spot::BeforeWord));
         }
-        self.go(byte == letter, Phase::At(Spot::Second))
+        self.go(is_letter(classes, byte, letter), Phase::At(Spot::Second))
     }
 
     // Before a number.
-    fn before_number(self, byte: u8, most: u32) -> Head
-        requires { ⌜ self .place < lastPlace ⌝ }
+    fn before_number(self, classes: &[u8], byte: u8, most: u32) -> Head
+        requires { ⌜ Ready (now classes) (self .place) ⌝ }
         ensures { λ r. ⌜ r ≡ beforeNumberOf self byte most ⌝ }
     {
-        if is_blank(byte) {
+        if is_blank(classes, byte) {
             return self.to(Phase::At(Spot::BeforeNumber));
         }
-        if is_digit(byte) {
+        if is_digit(classes, byte) {
             return self.taken(grown(false, 0, digit_of(byte), most));
         }
         self.dead()
@@ -242,60 +293,63 @@ impl Head {
     }
 
     // In a number.
-    fn number(self, byte: u8, most: u32) -> Head
-        requires { ⌜ self .place < lastPlace ⌝ }
+    fn number(self, classes: &[u8], byte: u8, most: u32) -> Head
+        requires { ⌜ Ready (now classes) (self .place) ⌝ }
         ensures { λ r. ⌜ r ≡ numberIn self byte most ⌝ }
     {
-        if is_digit(byte) {
+        if is_digit(classes, byte) {
             return self.taken(grown(true, self.value, digit_of(byte), most));
         }
-        if is_blank(byte) {
+        if is_blank(classes, byte) {
             return self.space();
         }
-        if byte == 10 {
+        if is_newline(classes, byte) {
             return self.go(self.last, Phase::Done);
         }
         self.dead()
     }
 
     // Behind the last number and a space.
-    fn after(self, byte: u8) -> Head
-        requires { ⌜ self .place < lastPlace ⌝ }
+    fn after(self, classes: &[u8], byte: u8) -> Head
+        requires { ⌜ Ready (now classes) (self .place) ⌝ }
         ensures { λ r. ⌜ r ≡ afterOf self byte ⌝ }
     {
-        if is_blank(byte) {
+        if is_blank(classes, byte) {
             return self.to(Phase::At(Spot::After));
         }
-        self.go(byte == 10, Phase::Done)
+        self.go(is_newline(classes, byte), Phase::Done)
     }
 
     // One byte on, where the head is not over.
-    fn step_at(self, spot: Spot, byte: u8, form: Form) -> Head
-        requires { ⌜ self .place < lastPlace ⌝ }
+    fn step_at(self, spot: Spot, classes: &[u8], byte: u8, form: Form) -> Head
+        requires { ⌜ ReadyIn (now classes) form (self .place) ⌝ }
         ensures { λ r. ⌜ r ≡ stepAt spot form self byte ⌝ }
     {
         match spot {
-            Spot::Line => self.line(byte),
-            Spot::Comment => self.comment(byte),
-            Spot::Problem => self.go(is_blank(byte), Phase::At(Spot::BeforeWord)),
-            Spot::BeforeWord => self.before_word(byte, form.first),
-            Spot::Second => self.go(byte == form.second, Phase::At(Spot::Third)),
-            Spot::Third => self.go(byte == form.third, Phase::At(Spot::Word)),
-            Spot::Word => self.go(is_blank(byte), Phase::At(Spot::BeforeNumber)),
-            Spot::BeforeNumber => self.before_number(byte, self.most(form)),
-            Spot::Number => self.number(byte, self.most(form)),
-            Spot::After => self.after(byte),
+            Spot::Line => self.line(classes, byte),
+            Spot::Comment => self.comment(classes, byte),
+            Spot::Problem => self.go(is_blank(classes, byte), Phase::At(Spot::BeforeWord)),
+            Spot::BeforeWord => self.before_word(classes, byte, form.first),
+            Spot::Second => self.go(
+                is_letter(classes, byte, form.second),
+                Phase::At(Spot::Third),
+            ),
+            Spot::Third => self.go(is_letter(classes, byte, form.third), Phase::At(Spot::Word)),
+            Spot::Word => self.go(is_blank(classes, byte), Phase::At(Spot::BeforeNumber)),
+            Spot::BeforeNumber => self.before_number(classes, byte, self.most(form)),
+            Spot::Number => self.number(classes, byte, self.most(form)),
+            Spot::After => self.after(classes, byte),
         }
     }
 
     // One byte on: hands back the advanced state.
-    pub fn step(self, byte: u8, form: Form) -> Head
-        requires { ⌜ self .place < lastPlace ⌝ }
+    pub fn step(self, classes: &[u8], byte: u8, form: Form) -> Head
+        requires { ⌜ ReadyIn (now classes) form (self .place) ⌝ }
         ensures { λ r. ⌜ r ≡ stepOf form self byte ⌝ }
     {
         let phase = self.phase;
         match phase {
-            Phase::At(spot) => self.step_at(spot, byte, form),
+            Phase::At(spot) => self.step_at(spot, classes, byte, form),
             Phase::Done => self,
             Phase::Dead => self,
         }
@@ -303,17 +357,22 @@ impl Head {
 }
 
 // Reads the head of a text: up to the newline that ends the header, or to where no accepted text goes on so, or all of it.
-pub fn read(text: &[u8], form: Form) -> Head
+pub fn read(classes: &[u8], text: &[u8], form: Form) -> Head
+    requires { ⌜ Readable (now classes) form ⌝ }
     ensures { λ r. ⌜ r ≡ headOf form (now (text .entry)) ⌝ }
 {
     let mut head = Head::start(form);
-    let mut i = 0;
-    while i < text.len() {
+    while head.place < text.len() {
         if head.is_over() {
             return head;
         }
-        head = head.step(text[i], form);
-        i += 1;
+        let place = head.place;
+        head = head.step(classes, text[place], form);
+        // A comment has a loop of its own: the compiler makes a short one of it.
+        while head.place < text.len() && head.is_comment() {
+            let at = head.place;
+            head = head.comment(classes, text[at]);
+        }
     }
     head
 }

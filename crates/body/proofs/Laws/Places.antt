@@ -10,12 +10,10 @@ use Rattle.text.specs.declared.number.Number.{Number}
 use Rattle.text.specs.declared.number.Number.the-variants.{Wrong, Is}
 use Rattle.header.proofs.Laws.Readers.{Placed}
 use Rattle.clausebytes.specs.Words.{mostLiterals}
-use Rattle.body.specs.Inner.Table.{classOf, actOf}
+use Rattle.body.specs.Inner.Table.{sortOf, actOf, Act, Die, Go, Close, Begin, Turn, Lead, Grow, EndPlain, EndNegated}
 use Rattle.body.specs.Inner.States.{deadOf, takenOf, openOf, begunOf, moveOf, stepOf}
 use Rattle.body.specs.declared.phase.Phase.{Phase}
 use Rattle.body.specs.declared.phase.Phase.the-variants.{Between, Closed, Sign, Plain, Negated, Dead}
-use Rattle.body.specs.declared.phase.Act.{Act}
-use Rattle.body.specs.declared.phase.Act.the-variants.{Die, Go, Close, Begin, Turn, Lead, Grow, EndPlain, EndNegated}
 use Rattle.body.specs.declared.state.State.{State}
 
 -- which states are live
@@ -73,14 +71,14 @@ dead-only Negated e = absurd (false≢true (sym e))
 dead-only Dead e = refl
 
 pub dead-step : (s : State) (b : ℕ) → live-state s ≡ false → stepOf s b ≡ deadOf s
-dead-step s b e = ap (λ (p : Phase). moveOf (actOf p (classOf b)) s (b - 48)) (dead-only (s .phase) e)
+dead-step s b e = ap (λ (p : Phase). moveOf (actOf p (sortOf b)) s (b - 48)) (dead-only (s .phase) e)
 
 -- by its moves
 by-move : {A : Type 0} (s : State) (b : ℕ) → (Moved s (stepOf s b) → A) → (stepOf s b ≡ deadOf s → A) → A
 by-move {A} s b moves dies = go (live-state s) refl
   where
     go : (c : Bool) → live-state s ≡ c → A
-    go true e = moves (moved s (actOf (s .phase) (classOf b)) (b - 48) e)
+    go true e = moves (moved s (actOf (s .phase) (sortOf b)) (b - 48) e)
     go false e = dies (dead-step s b e)
 
 on-place : {s r : State} → Moved s r → live-state r ≡ true → r .place ≡ s .place + 1
@@ -90,15 +88,6 @@ on-place off l = absurd (false≢true l)
 off-place : {s r : State} → Moved s r → live-state r ≡ false → r .place ≡ s .place
 off-place (on h e) l = absurd (false≢true (sym l ∙ h))
 off-place off l = refl
-
-most-place : {s r : State} → Moved s r → r .place ≤ s .place + 1
-most-place (on h e) = omega arith
-most-place off = omega arith
-
-pub place-step : (s r : State) (b : ℕ) → r ≡ stepOf s b → r .place ≤ s .place + 1
-place-step s r b e =
-    subst⁻¹ (λ (q : State). q .place ≤ s .place + 1) e
-    (by-move s b most-place (λ d. subst⁻¹ (λ (q : State). q .place ≤ s .place + 1) d (omega arith)))
 
 pub body-placed : Placed stepOf live-state (λ s. false) (λ s. s .place)
 body-placed = record {

@@ -2,19 +2,18 @@
 -- A limit ends a reading at the first byte after which no text can be finished any more.
 -- Assumes nothing: these are definitions.
 use mathlib.Core.Bool.{Bool, true, false, cond}
-use Prim.Native.Nat.{ℕ, _+_, _-_}
+use Prim.Native.Nat.{ℕ, _+_, _-_, _≤_, _<_}
 use lib.Dec.{eqb, ltb}
 use Rattle.text.specs.Inner.Numbers.{grownOf}
 use Rattle.text.specs.declared.number.Number.{Number}
 use Rattle.text.specs.declared.number.Number.the-variants.{Wrong, Is}
+use Rattle.header.specs.Inner.Heads.{lastPlace}
 use Rattle.clausebytes.specs.Words.{mostLiterals}
-use Rattle.body.specs.Inner.Table.{classOf, actOf, endsIn, tokenOf}
+use Rattle.body.specs.Inner.Table.{sortOf, actOf, endsIn}
+use Rattle.body.specs.Inner.Table.{Act, Die, Go, Close, Begin, Turn, Lead, Grow, EndPlain, EndNegated}
 use Rattle.body.specs.declared.phase.Phase.{Phase}
 use Rattle.body.specs.declared.phase.Phase.the-variants.{Between, Closed, Sign, Plain, Negated, Dead}
-use Rattle.body.specs.declared.phase.Act.{Act}
-use Rattle.body.specs.declared.phase.Act.the-variants.{Die, Go, Close, Begin, Turn, Lead, Grow, EndPlain, EndNegated}
 use Rattle.body.specs.declared.state.State.{State}
-use Rattle.body.specs.declared.state.Stepped.{Stepped}
 
 -- right behind a header
 abbrev pub startOf : ℕ → ℕ → ℕ → State
@@ -97,9 +96,11 @@ moveOf Grow s d = takenOf s (s .phase) (grownOf true (s .value) d (s .variables)
 moveOf EndPlain s d = toOf s Between 0
 moveOf EndNegated s d = toOf s Between 0
 
--- one byte on: the state, and what is handed back
+-- one byte on
 abbrev pub stepOf : State → ℕ → State
-stepOf s b = moveOf (actOf (s .phase) (classOf b)) s (b - 48)
+stepOf s b = moveOf (actOf (s .phase) (sortOf b)) s (b - 48)
 
-abbrev pub steppedOf : State → ℕ → Stepped
-steppedOf s b = record { state = stepOf s b; token = tokenOf (actOf (s .phase) (classOf b)) }
+-- what a method asks that takes a digit in
+pub record Digit (s : State) (b : ℕ) : Type 0 where
+  pub place : s .place < lastPlace
+  pub least : 48 ≤ b

@@ -20,11 +20,10 @@ use Rattle.clausal.specs.Totals.{literalsIn}
 use Rattle.clausebytes.specs.Words as right
 use Rattle.clausebytes.specs.Words.{mostLiterals, Within}
 use Rattle.body.specs.Inner.Table.{tokenOf}
+use Rattle.body.specs.Inner.Table.{Act, Go, Close, Begin, Turn, Lead, Grow, EndPlain, EndNegated}
 use Rattle.body.specs.Inner.States.{deadOf, takenOf, closeOf, openOf, begunOf, turnOf, moveOf}
 use Rattle.body.specs.declared.phase.Phase.{Phase}
 use Rattle.body.specs.declared.phase.Phase.the-variants.{Between, Closed, Sign, Plain, Negated, Dead}
-use Rattle.body.specs.declared.phase.Act.{Act}
-use Rattle.body.specs.declared.phase.Act.the-variants.{Go, Close, Begin, Turn, Lead, Grow, EndPlain, EndNegated}
 use Rattle.body.specs.declared.state.State.{State}
 use Rattle.dimacs.specs.Texts.{literalText, White, Body}
 use Rattle.dimacs.specs.Texts as grammar

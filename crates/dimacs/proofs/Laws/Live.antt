@@ -8,13 +8,12 @@ use native.Mathlib.Omega.{arith}
 use lib.Dec.{eqb, ltb}
 use borrow.Author.Tests.{eqb-true, eqb-false, ltb-true, ltb-false, ne-eqb, lt-ltb, le-ltb}
 use Rattle.header.specs.Heads.{space, tab}
-use Rattle.body.specs.Inner.Table.{lowOf, classOf, actOf}
-use Rattle.body.specs.declared.class.Class.{Class}
-use Rattle.body.specs.declared.class.Class.the-variants.{Nought, Digit, Minus, White, Other}
+use Rattle.classes.specs.Classes as class
+use Rattle.classes.specs.Classes.{Class, lowOf, highOf, classOf}
+use Rattle.body.specs.Inner.Table.{Sort, Nought, Digit, Minus, White, Other, sortIn, sortOf, actOf}
+use Rattle.body.specs.Inner.Table.{Act, Die, Go, Close, Begin, Turn, Lead, Grow, EndPlain, EndNegated}
 use Rattle.body.specs.declared.phase.Phase.{Phase}
 use Rattle.body.specs.declared.phase.Phase.the-variants.{Between, Closed, Sign, Plain, Negated, Dead}
-use Rattle.body.specs.declared.phase.Act.{Act}
-use Rattle.body.specs.declared.phase.Act.the-variants.{Die, Go, Close, Begin, Turn, Lead, Grow, EndPlain, EndNegated}
 use Rattle.dimacs.specs.Texts as grammar
 
 pub data Live : Phase → ℕ → Act → Type 0 where
@@ -29,87 +28,94 @@ pub data Live : Phase → ℕ → Act → Type 0 where
   grow-negated : {d : ℕ} → d < 10 → Live Negated (48 + d) Grow
   end-negated : {b : ℕ} → grammar.White b → Live Negated b EndNegated
 
--- the classes of bytes
-pub class-digit : (d : ℕ) → 0 < d → d < 10 → classOf (48 + d) ≡ Digit
-class-digit d h g =
+-- the sorts of bytes
+pub sort-digit : (d : ℕ) → 0 < d → d < 10 → sortOf (48 + d) ≡ Digit
+sort-digit d h g =
     rw (le-ltb (48 + d) 48 (omega arith), ne-eqb (48 + d) 48 (λ e. omega arith), lt-ltb (48 + d) 58 (omega arith))
 
-class-white : {b : ℕ} → grammar.White b → classOf b ≡ White
-class-white (grammar.blank space) = refl
-class-white (grammar.blank tab) = refl
-class-white grammar.return = refl
-class-white grammar.newline = refl
+sort-white : {b : ℕ} → grammar.White b → sortOf b ≡ White
+sort-white (grammar.blank space) = refl
+sort-white (grammar.blank tab) = refl
+sort-white grammar.return = refl
+sort-white grammar.newline = refl
 
 -- a live entry is what the table says
-grows : (p : Phase) → actOf p Nought ≡ Grow → actOf p Digit ≡ Grow → (d : ℕ) → d < 10 → actOf p (classOf (48 + d)) ≡ Grow
+grows : (p : Phase) → actOf p Nought ≡ Grow → actOf p Digit ≡ Grow → (d : ℕ) → d < 10 → actOf p (sortOf (48 + d)) ≡ Grow
 grows p z o zero h = z
-grows p z o (suc d) h = ap (actOf p) (class-digit (suc d) (omega arith) h) ∙ o
+grows p z o (suc d) h = ap (actOf p) (sort-digit (suc d) (omega arith) h) ∙ o
 
-pub act-of-live : {p : Phase} {b : ℕ} {a : Act} → Live p b a → actOf p (classOf b) ≡ a
+pub act-of-live : {p : Phase} {b : ℕ} {a : Act} → Live p b a → actOf p (sortOf b) ≡ a
 act-of-live close = refl
-act-of-live (begin {d = d} h g) = ap (actOf Between) (class-digit d h g)
+act-of-live (begin {d = d} h g) = ap (actOf Between) (sort-digit d h g)
 act-of-live turn = refl
-act-of-live (pass y) = ap (actOf Between) (class-white y)
-act-of-live (part y) = ap (actOf Closed) (class-white y)
-act-of-live (lead {d = d} h g) = ap (actOf Sign) (class-digit d h g)
+act-of-live (pass y) = ap (actOf Between) (sort-white y)
+act-of-live (part y) = ap (actOf Closed) (sort-white y)
+act-of-live (lead {d = d} h g) = ap (actOf Sign) (sort-digit d h g)
 act-of-live (grow-plain {d = d} h) = grows Plain refl refl d h
-act-of-live (end-plain y) = ap (actOf Plain) (class-white y)
+act-of-live (end-plain y) = ap (actOf Plain) (sort-white y)
 act-of-live (grow-negated {d = d} h) = grows Negated refl refl d h
-act-of-live (end-negated y) = ap (actOf Negated) (class-white y)
+act-of-live (end-negated y) = ap (actOf Negated) (sort-white y)
 
--- what a byte of each class is
-record Numeral (b : ℕ) : Type 0 where
-  value : ℕ
-  some : 0 < value
-  one : value < 10
-  is : b ≡ 48 + value
+-- what a byte of each sort is
+pub record Numeral (b : ℕ) : Type 0 where
+  pub value : ℕ
+  pub some : 0 < value
+  pub one : value < 10
+  pub is : b ≡ 48 + value
 
-abbrev Is : Class → ℕ → Type 0
+abbrev pub Is : Sort → ℕ → Type 0
 Is Nought b = b ≡ 48
 Is Digit b = Numeral b
 Is Minus b = b ≡ 45
 Is White b = grammar.White b
 Is Other b = Unit
 
-test : (b m : ℕ) (x y : Class) → (b ≡ m → Is x b) → ((b ≡ m → ⊥) → Is y b) → Is (cond (eqb b m) x y) b
+test : (b m : ℕ) (x y : Class) → (b ≡ m → Is (sortIn x) b) → ((b ≡ m → ⊥) → Is (sortIn y) b) → Is (sortIn (cond (eqb b m) x y)) b
 test b m x y f g = go (eqb b m) refl
   where
-    go : (t : Bool) → eqb b m ≡ t → Is (cond t x y) b
+    go : (t : Bool) → eqb b m ≡ t → Is (sortIn (cond t x y)) b
     go true e = f (eqb-true b m e)
     go false e = g (eqb-false b m e)
 
-below : (b m : ℕ) (x y : Class) → (b < m → Is x b) → (m ≤ b → Is y b) → Is (cond (ltb b m) x y) b
+below : (b m : ℕ) (x y : Class) → (b < m → Is (sortIn x) b) → (m ≤ b → Is (sortIn y) b) → Is (sortIn (cond (ltb b m) x y)) b
 below b m x y f g = go (ltb b m) refl
   where
-    go : (t : Bool) → ltb b m ≡ t → Is (cond t x y) b
+    go : (t : Bool) → ltb b m ≡ t → Is (sortIn (cond t x y)) b
     go true e = f (ltb-true b m e)
     go false e = g (ltb-false b m e)
 
-low-is : (b : ℕ) → Is (lowOf b) b
+low-is : (b : ℕ) → Is (sortIn (lowOf b)) b
 low-is b =
-    test b 32 White _ (λ e. subst⁻¹ grammar.White e (grammar.blank space)) λ _.
-    test b 45 Minus _ (λ e. e) λ _.
-    test b 10 White _ (λ e. subst⁻¹ grammar.White e grammar.newline) λ _.
-    test b 9 White _ (λ e. subst⁻¹ grammar.White e (grammar.blank tab)) λ _.
-    test b 13 White Other (λ e. subst⁻¹ grammar.White e grammar.return) (λ _. tt)
+    test b 32 class.Blank _ (λ e. subst⁻¹ grammar.White e (grammar.blank space)) λ _.
+    test b 9 class.Blank _ (λ e. subst⁻¹ grammar.White e (grammar.blank tab)) λ _.
+    test b 13 class.Return _ (λ e. subst⁻¹ grammar.White e grammar.return) λ _.
+    test b 10 class.Newline _ (λ e. subst⁻¹ grammar.White e grammar.newline) λ _.
+    test b 45 class.Minus class.Rest (λ e. e) (λ _. tt)
 
-class-is : (b : ℕ) → Is (classOf b) b
-class-is b =
+high-is : (b : ℕ) → Is (sortIn (highOf b)) b
+high-is b =
+    test b 99 class.LetterC _ (λ _. tt) λ _.
+    test b 102 class.LetterF _ (λ _. tt) λ _.
+    test b 110 class.LetterN _ (λ _. tt) λ _.
+    test b 112 class.LetterP class.Rest (λ _. tt) (λ _. tt)
+
+pub sort-is : (b : ℕ) → Is (sortOf b) b
+sort-is b =
     below b 48 (lowOf b) _ (λ _. low-is b) λ h.
-    test b 48 Nought _ (λ e. e) λ n.
-    below b 58 Digit Other
+    test b 48 class.Nought _ (λ e. e) λ n.
+    below b 58 class.Digit (highOf b)
     (λ g. record { value = b - 48; some = omega arith; one = omega arith; is = omega arith })
-    (λ _. tt)
+    (λ _. high-is b)
 
 -- any byte is live in a phase, or the reader dies of it
 module _ (b : ℕ) where
-  abbrev Found : Phase → Class → Type 0
+  abbrev Found : Phase → Sort → Type 0
   Found p q = Live p b (actOf p q) ⊎ (actOf p q ≡ Die)
 
   known : (p : Phase) (c : ℕ) {a : Act} → b ≡ c → Live p c a → Live p b a
   known p c {a} e l = subst⁻¹ (λ (x : ℕ). Live p x a) e l
 
-  looked : (p : Phase) (q : Class) → Is q b → Found p q
+  looked : (p : Phase) (q : Sort) → Is q b → Found p q
   looked Between Nought e = inl (known Between 48 e close)
   looked Between Digit e = inl (known Between (48 + e .value) (e .is) (begin (e .some) (e .one)))
   looked Between Minus e = inl (known Between 45 e turn)
@@ -137,5 +143,5 @@ module _ (b : ℕ) where
   looked Negated Other e = inr refl
   looked Dead q e = inr refl
 
-pub live-or-dead : (p : Phase) (b : ℕ) → Live p b (actOf p (classOf b)) ⊎ (actOf p (classOf b) ≡ Die)
-live-or-dead p b = looked b p (classOf b) (class-is b)
+pub live-or-dead : (p : Phase) (b : ℕ) → Live p b (actOf p (sortOf b)) ⊎ (actOf p (sortOf b) ≡ Die)
+live-or-dead p b = looked b p (sortOf b) (sort-is b)

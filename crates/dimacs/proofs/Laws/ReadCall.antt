@@ -1,13 +1,12 @@
 -- What the reading call gives, in each of its cases.
 -- Assumes nothing.
-use mathlib.Core.Path.{_≡_, refl, sym, ap, subst, _∙_}
+use mathlib.Core.Path.{_≡_, sym, ap, subst, _∙_}
 use mathlib.Core.Bool.{true, false}
-use mathlib.Core.List.{List, [], _∷_}
+use mathlib.Core.List.{List}
 use Prim.Native.Nat.{ℕ, _≤_, _<_}
 use native.Mathlib.Omega.{arith}
-use lib.ListN.{length, drop}
+use lib.ListN.{length}
 use Rattle.laws.specs.Lists.{splice}
-use Rattle.laws.specs.Automata.{output}
 use Rattle.laws.proofs.Stored.{stored-nothing}
 use Rattle.header.specs.Inner.Heads.{isDone, headOf}
 use Rattle.header.specs.declared.Head.{Head}
@@ -16,10 +15,10 @@ use Rattle.answer.specs.declared.Answer.the-variants.{Accepted, Room, Text}
 use Rattle.answer.proofs.Laws.Part.{stored-short, stored-fits}
 use Rattle.clausebytes.specs.Inner.Checks.{roomOf}
 use Rattle.clausebytes.proofs.Encoded.{length-clauses}
-use Rattle.body.specs.Inner.States.{startOf, accepts, stepOf}
+use Rattle.body.specs.Inner.States.{startOf, accepts}
 use Rattle.body.specs.declared.state.State.{State}
 use Rattle.dimacs.specs.Texts.{cnf}
-use Rattle.dimacs.specs.Inner.Walks.{stateFrom, bytesFrom, putsFor, writtenFrom, Walking, Walked}
+use Rattle.dimacs.specs.Inner.Walks.{stateFrom, bytesFrom, Walked}
 use Rattle.dimacs.specs.Inner.Calls.{readCall}
 use Rattle.dimacs.proofs.Laws.Texts.{body-of-text, text-of-body}
 
@@ -39,33 +38,22 @@ module _ (t buffer : List ℕ) {h : Head} (g : h ≡ headOf cnf t) where
       subst (λ (x : Head). isDone (x .phase) ≡ false → record { answer = Text (x .place); output = buffer } ≡ readCall t buffer) (sym g)
       (λ e. rw e)
 
--- a reading that does not write leaves the buffer alone
-nothing-put : (s : State) (xs : List ℕ) → output stepOf (putsFor false) s xs ≡ []
-nothing-put s [] = refl
-nothing-put s (b ∷ xs) = nothing-put (stepOf s b) xs
-
-pub nothing-written : (s : State) (t : List ℕ) (from : ℕ) → writtenFrom false s t from ≡ []
-nothing-written s t from = nothing-put s (drop from t)
-
 -- What is known after the head and the first reading of what follows: it started in s, it ended in e, and it left the buffer as `left`.
 pub record Seen (t buffer : List ℕ) (h : Head) (s e : State) (left : List ℕ) : Type 0 where
   pub head : h ≡ headOf cnf t
   pub done : isDone (h .phase) ≡ true
   pub start : s ≡ startAt h
-  pub walked : Walked t (h .place) s false buffer e left
+  pub walked : Walked t s false buffer e left
 
 module _ {t buffer : List ℕ} {h : Head} {s e : State} {left : List ℕ} (k : Seen t buffer h s e left) where
   left-same : left ≡ buffer
-  left-same =
-      k .walked .bytes
-      ∙ ap (splice buffer 0) (nothing-written s t (h .place))
-      ∙ sym (stored-nothing buffer 0 .list)
+  left-same = k .walked .bytes ∙ sym (stored-nothing buffer 0 .list)
 
   done : isDone (headOf cnf t .phase) ≡ true
   done = ap (λ (x : Head). isDone (x .phase)) (sym (k .head)) ∙ k .done
 
   end-is : e ≡ endAt (headOf cnf t) t
-  end-is = k .walked .state ∙ ap (λ (x : State). stateFrom x t (h .place)) (k .start) ∙ ap (λ (x : Head). endAt x t) (k .head)
+  end-is = k .walked .state ∙ ap (λ (x : State). stateFrom x t (x .place)) (k .start) ∙ ap (λ (x : Head). endAt x t) (k .head)
 
   pub read-refused : accepts e ≡ false → record { answer = Text (e .place); output = left } ≡ readCall t buffer
   read-refused f =
@@ -97,16 +85,13 @@ module _ {t buffer : List ℕ} {h : Head} {s e : State} {left : List ℕ} (k : S
 
     -- there is room: the second reading writes
     module _ (n : roomOf (h .value) (e .literals) ≤ length left) where
-      bytes-are : writtenFrom true s t (h .place) ≡ bytesAt (headOf cnf t) t
-      bytes-are = ap (λ (x : State). bytesFrom x t (h .place)) (k .start) ∙ ap (λ (x : Head). bytesAt x t) (k .head)
+      bytes-are : bytesFrom s t (s .place) ≡ bytesAt (headOf cnf t) t
+      bytes-are = ap (λ (x : State). bytesFrom x t (x .place)) (k .start) ∙ ap (λ (x : Head). bytesAt x t) (k .head)
 
-      pub read-room : Walking t (h .place) s true left
-      read-room = record {
-        place = omega (arith, ap (λ (x : State). x .place) (k .start));
-        room = omega (arith, ap length bytes-are, size);
-      }
+      pub read-room : length (bytesFrom s t (s .place)) ≤ length left
+      read-room = omega (arith, ap length bytes-are, size)
 
-      pub read-accepted : {r : State} {after : List ℕ} → Walked t (h .place) s true left r after
+      pub read-accepted : {r : State} {after : List ℕ} → Walked t s true left r after
           → record { answer = Accepted (h .before) (h .value); output = after } ≡ readCall t buffer
       read-accepted {after = after} w =
           stored-fits (Accepted (h .before) (h .value)) (bytesAt (headOf cnf t) t) buffer after (omega (arith, size, ap length left-same))

@@ -23,12 +23,11 @@ use Rattle.clausal.specs.Clauses.{Literal, Clause, literalBytes, clausesBytes}
 use Rattle.clausal.specs.Totals.{literalsIn}
 use Rattle.clausebytes.specs.Words as right
 use Rattle.clausebytes.specs.Words.{mostLiterals, Within}
-use Rattle.body.specs.Inner.Table.{classOf, actOf, tokenOf}
+use Rattle.body.specs.Inner.Table.{sortOf, actOf, tokenOf}
+use Rattle.body.specs.Inner.Table.{Act, Die}
 use Rattle.body.specs.Inner.States.{accepts, deadOf, takenOf, openOf, begunOf, moveOf, stepOf}
 use Rattle.body.specs.declared.phase.Phase.{Phase}
 use Rattle.body.specs.declared.phase.Phase.the-variants.{Between, Closed, Sign, Plain, Negated, Dead}
-use Rattle.body.specs.declared.phase.Act.{Act}
-use Rattle.body.specs.declared.phase.Act.the-variants.{Die}
 use Rattle.body.specs.declared.state.State.{State}
 use Rattle.body.proofs.Laws.Places.{alive, live-state, dead-only, dead-step}
 use Rattle.dimacs.specs.Texts.{literalText, Body}
@@ -52,7 +51,7 @@ module _ (s : State) (m : ℕ) (b : ℕ) (t : List ℕ) where
   pub lang-backward : (left : List ℕ) → Kept s → Lang (stepOf s b) m left t → Lang s m (putsOf s b ++ left) (b ∷ t)
   lang-backward left k h = go (live-or-dead (s .phase) b)
     where
-      go : Live (s .phase) b (actOf (s .phase) (classOf b)) ⊎ (actOf (s .phase) (classOf b) ≡ Die) → Lang s m (putsOf s b ++ left) (b ∷ t)
+      go : Live (s .phase) b (actOf (s .phase) (sortOf b)) ⊎ (actOf (s .phase) (sortOf b) ≡ Die) → Lang s m (putsOf s b ++ left) (b ∷ t)
       go (inl w) = lang-back w (s .place) (s .value) (s .variables) (s .declared) (s .clauses) (s .literals) m left t k h
       go (inr e) = absurd (subst (λ (a : Act). Lang (moveOf a s (b - 48)) m left t) e h)
 
@@ -152,7 +151,7 @@ module _ (l x v k c n : ℕ) where
 pub kept-step : (s : State) (b : ℕ) → Kept s → Kept (stepOf s b)
 kept-step s b q = go (live-or-dead (s .phase) b)
   where
-    go : Live (s .phase) b (actOf (s .phase) (classOf b)) ⊎ (actOf (s .phase) (classOf b) ≡ Die) → Kept (stepOf s b)
+    go : Live (s .phase) b (actOf (s .phase) (sortOf b)) ⊎ (actOf (s .phase) (sortOf b) ≡ Die) → Kept (stepOf s b)
     go (inl w) = kept-live (s .place) (s .value) (s .variables) (s .declared) (s .clauses) (s .literals) w q
     go (inr e) = subst⁻¹ (λ (a : Act). Kept (moveOf a s (b - 48))) e tt
 

@@ -3,17 +3,19 @@
 -- Assumes nothing: these are definitions.
 use mathlib.Core.Path.{_≡_}
 use mathlib.Core.Bool.{Bool, true, false, cond}
-use mathlib.Core.List.{List, []}
-use Prim.Native.Nat.{ℕ, _≤_}
-use lib.ListN.{length, drop}
+use mathlib.Core.List.{List, [], _++_}
+use mathlib.Core.Logic.{_⊎_}
+use Prim.Native.Nat.{ℕ, _≤_, _<_}
+use lib.Dec.{eqb}
+use lib.ListN.{length, getD, drop}
 use Rattle.laws.specs.Lists.{splice}
 use Rattle.laws.specs.Numbers.{little}
 use Rattle.laws.specs.Automata.{run, output}
+use Rattle.classes.specs.Classes.{classOf, code, isWhite, isDigit, table}
 use Rattle.clausal.specs.Clauses.{literalBytes}
-use Rattle.body.specs.Inner.Table.{classOf, actOf, tokenOf}
+use Rattle.body.specs.Inner.Table.{sortOf, actOf, tokenOf, isDead, isNumber, Token, Nothing, Zero, Positive, Negative}
 use Rattle.body.specs.Inner.States.{stepOf}
-use Rattle.body.specs.declared.phase.Token.{Token}
-use Rattle.body.specs.declared.phase.Token.the-variants.{Nothing, Zero, Positive, Negative}
+use Rattle.body.specs.declared.phase.Phase.the-variants.{Between}
 use Rattle.body.specs.declared.state.State.{State}
 
 -- the clause bytes of what is complete, with the magnitude read
@@ -23,13 +25,9 @@ tokenBytes Zero x = little 4 0
 tokenBytes Positive x = literalBytes (record { plain = true; variable = x })
 tokenBytes Negative x = literalBytes (record { plain = false; variable = x })
 
--- what is written of a token: nothing, by a reading that does not write
-abbrev pub tokenFor : Bool → Token → Token
-tokenFor writes k = cond writes k Nothing
-
 -- the clause bytes that are complete with a byte
 abbrev pub putsOf : State → ℕ → List ℕ
-putsOf s b = tokenBytes (tokenOf (actOf (s .phase) (classOf b))) (s .value)
+putsOf s b = tokenBytes (tokenOf (actOf (s .phase) (sortOf b))) (s .value)
 
 -- the state after a text from a place on, and the clause bytes put out on the way
 abbrev pub stateFrom : State → List ℕ → ℕ → State
@@ -38,19 +36,74 @@ stateFrom start text from = run stepOf start (drop from text)
 abbrev pub bytesFrom : State → List ℕ → ℕ → List ℕ
 bytesFrom start text from = output stepOf putsOf start (drop from text)
 
--- what is written on the way: nothing, by a reading that does not write
-abbrev pub putsFor : Bool → State → ℕ → List ℕ
-putsFor writes s b = tokenBytes (tokenFor writes (tokenOf (actOf (s .phase) (classOf b)))) (s .value)
+-- bytes that are written: none by a reading that does not write
+abbrev pub written : Bool → List ℕ → List ℕ
+written writes xs = cond writes xs []
 
-abbrev pub writtenFrom : Bool → State → List ℕ → ℕ → List ℕ
-writtenFrom writes start text from = output stepOf (putsFor writes) start (drop from text)
+-- the byte that is read next
+abbrev pub nextIn : List ℕ → State → ℕ
+nextIn text s = getD text (s .place) 0
 
--- what a reading asks: a place that can grow, and room
-pub record Walking (text : List ℕ) (from : ℕ) (start : State) (writes : Bool) (out : List ℕ) : Type 0 where
-  pub place : start .place ≤ from
-  pub room : length (writtenFrom writes start text from) ≤ length out
+-- a text leads from one state to another, and these bytes are put out on the way
+pub record Leads (text : List ℕ) (s : State) (puts : List ℕ) (r : State) : Type 0 where
+  pub state : stateFrom s text (s .place) ≡ stateFrom r text (r .place)
+  pub bytes : bytesFrom s text (s .place) ≡ puts ++ bytesFrom r text (r .place)
+  pub onward : s .place ≤ r .place
+  pub within : r .place ≤ length text
+
+-- a reading that ends here: no accepted text begins so, or there is no more text
+pub data Over (text : List ℕ) (s : State) : Type 0 where
+  dead : isDead (s .phase) ≡ true → Over text s
+  end : length text ≤ s .place → Over text s
+
+-- what reading a zero asks, and gives: the reading is over, or what comes next stands apart from it
+pub record AtZero (classes text : List ℕ) (s : State) : Type 0 where
+  pub table : classes ≡ table
+  pub place : s .place < length text
+  pub phase : s .phase ≡ Between
+  pub zero : eqb (code (classOf (nextIn text s))) 9 ≡ true
+
+pub record Zeroed (text : List ℕ) (s r : State) : Type 0 where
+  pub leads : Leads text s (little 4 0) r
+  pub next : Over text r ⊎ (r .phase ≡ Between)
+  pub further : isDead (r .phase) ≡ false → s .place < r .place
+
+-- what reading the first digit of a literal asks, and gives: the reading is over, or it is in the digits
+pub record AtLiteral (classes text : List ℕ) (s : State) : Type 0 where
+  pub table : classes ≡ table
+  pub place : s .place < length text
+  pub phase : s .phase ≡ Between
+  pub apart : isWhite (classOf (nextIn text s)) ≡ false
+  pub some : eqb (code (classOf (nextIn text s))) 9 ≡ false
+
+pub record Begun (text : List ℕ) (s r : State) : Type 0 where
+  pub leads : Leads text s [] r
+  pub next : Over text r ⊎ (isNumber (r .phase) ≡ true)
+
+-- what reading the further digits asks, and gives: no accepted text begins so, or what comes next is no digit
+pub record InDigits (classes text : List ℕ) (s : State) : Type 0 where
+  pub table : classes ≡ table
+  pub place : s .place ≤ length text
+  pub number : isNumber (s .phase) ≡ true
+
+pub record Ended (text : List ℕ) (s r : State) : Type 0 where
+  pub leads : Leads text s [] r
+  pub next : (isDead (r .phase) ≡ true) ⊎ (isNumber (r .phase) ≡ true)
+  pub stops : isDead (r .phase) ≡ false → r .place < length text → isDigit (classOf (nextIn text r)) ≡ false
+
+-- what reading a literal gives: the reading is over, or white space comes next
+pub record Spelt (text : List ℕ) (s r : State) : Type 0 where
+  pub leads : Leads text s [] r
+  pub next : Over text r ⊎ ((isNumber (r .phase) ≡ true) × (isWhite (classOf (nextIn text r)) ≡ true))
+
+-- what a reading asks: a text from the state's place on, between literals, and room
+pub record Walking (classes text : List ℕ) (start : State) (writes : Bool) (out : List ℕ) : Type 0 where
+  pub table : classes ≡ table
+  pub place : start .place ≤ length text
+  pub phase : start .phase ≡ Between
+  pub room : length (written writes (bytesFrom start text (start .place))) ≤ length out
 
 -- what it gives: the state after the text, and the bytes in front of the buffer
-pub record Walked (text : List ℕ) (from : ℕ) (start : State) (writes : Bool) (before : List ℕ) (end : State) (after : List ℕ) : Type 0 where
-  pub state : end ≡ stateFrom start text from
-  pub bytes : after ≡ splice before 0 (writtenFrom writes start text from)
+pub record Walked (text : List ℕ) (start : State) (writes : Bool) (before : List ℕ) (end : State) (after : List ℕ) : Type 0 where
+  pub state : end ≡ stateFrom start text (start .place)
+  pub bytes : after ≡ splice before 0 (written writes (bytesFrom start text (start .place)))

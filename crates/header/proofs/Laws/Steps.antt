@@ -6,6 +6,7 @@ use mathlib.Core.List.{List, [], _∷_, _++_}
 use Prim.Native.Nat.{ℕ, _+_, _-_, _≤_}
 use native.Mathlib.Omega.{arith}
 use lib.Dec.{eqb}
+use lib.ListN.{length}
 use Rattle.laws.specs.Automata.{run, Begins}
 use Rattle.text.specs.Texts.{decimal}
 use Rattle.text.specs.Inner.Numbers.{isDigit, grownOf}
@@ -15,7 +16,7 @@ use Rattle.text.proofs.Laws.Numbers.{here, grown-of}
 use Rattle.header.specs.Heads.{Gap, Blanks, Byte, LastNumber, Numbers}
 use Rattle.header.specs.Heads as grammar
 use Rattle.header.specs.Inner.Heads.{isBlank, isDone, isOver, startOf, toOf, deadOf, goOf, takenOf, mostOf, spaceBy, spaceOf, stepAt}
-use Rattle.header.specs.Inner.Heads.{stepIn, stepOf}
+use Rattle.header.specs.Inner.Heads.{stepIn, stepOf, headOf}
 use Rattle.header.specs.declared.Form.{Form}
 use Rattle.header.specs.declared.Head.{Head}
 use Rattle.header.specs.declared.Phase.{Phase}
@@ -101,8 +102,15 @@ module _ (f : Form) where
     off = λ s b l. placed-off (s .phase) s b l;
   }
 
-  pub place-step : (s : Head) (b : ℕ) → stepOf f s b .place ≤ s .place + 1
+  place-step : (s : Head) (b : ℕ) → stepOf f s b .place ≤ s .place + 1
   place-step s b = placed-most (s .phase) s b
+
+  run-within : (s : Head) (t : List ℕ) → run (stepOf f) s t .place ≤ s .place + length t
+  run-within s [] = omega arith
+  run-within s (b ∷ t) = omega (arith, place-step s b, run-within (stepOf f s b) t)
+
+  pub head-within : (t : List ℕ) → headOf f t .place ≤ length t
+  head-within t = omega (arith, run-within (startOf f) t)
 
 -- what is over stays as it is
 over-in : (f : Form) (p : Phase) (s : Head) (b : ℕ) → isOver p ≡ true → stepIn p f s b ≡ s

@@ -3,12 +3,14 @@
 -- Assumes nothing: these are definitions.
 use mathlib.Core.Bool.{Bool, true, false, cond, not, _||_}
 use mathlib.Core.List.{List}
-use Prim.Native.Nat.{ℕ, _+_, _-_, _^_}
+use mathlib.Core.Path.{_≡_}
+use Prim.Native.Nat.{ℕ, _+_, _-_, _^_, _<_}
 use lib.Dec.{eqb}
 use Rattle.laws.specs.Automata.{run}
 use Rattle.text.specs.Inner.Numbers.{isDigit, grownOf}
 use Rattle.text.specs.declared.number.Number as number
 use Rattle.text.specs.declared.number.Number.the-variants.{Wrong, Is}
+use Rattle.classes.specs.Classes.{classOf, isLetter, table}
 use Rattle.header.specs.declared.Form.{Form}
 use Rattle.header.specs.declared.Head.{Head}
 use Rattle.header.specs.declared.Phase.{Phase}
@@ -33,6 +35,23 @@ abbrev pub isOver : Phase → Bool
 isOver (At p) = false
 isOver Done = true
 isOver Dead = true
+
+abbrev pub isCommentAt : Spot → Bool
+isCommentAt Line = false
+isCommentAt Comment = true
+isCommentAt Problem = false
+isCommentAt BeforeWord = false
+isCommentAt Second = false
+isCommentAt Third = false
+isCommentAt Word = false
+isCommentAt BeforeNumber = false
+isCommentAt Number = false
+isCommentAt After = false
+
+abbrev pub isComment : Phase → Bool
+isComment (At p) = isCommentAt p
+isComment Done = false
+isComment Dead = false
 
 -- before the first byte
 abbrev pub startOf : Form → Head
@@ -110,3 +129,30 @@ stepOf f s b = stepIn (s .phase) f s b
 -- the state after a text
 abbrev pub headOf : Form → List ℕ → Head
 headOf f t = run (stepOf f) (startOf f) t
+
+-- each letter of the word has a class of its own
+pub record Lettered (f : Form) : Type 0 where
+  pub first : isLetter (classOf (f .first)) ≡ true
+  pub second : isLetter (classOf (f .second)) ≡ true
+  pub third : isLetter (classOf (f .third)) ≡ true
+
+-- what one byte on needs: the table, and a place that can still grow
+pub record Ready (classes : List ℕ) (place : ℕ) : Type 0 where
+  pub table : classes ≡ table
+  pub room : place < lastPlace
+
+-- and a letter, or the letters of the word
+pub record ReadyFor (classes : List ℕ) (letter place : ℕ) : Type 0 where
+  pub table : classes ≡ table
+  pub own : isLetter (classOf letter) ≡ true
+  pub room : place < lastPlace
+
+pub record ReadyIn (classes : List ℕ) (f : Form) (place : ℕ) : Type 0 where
+  pub table : classes ≡ table
+  pub letters : Lettered f
+  pub room : place < lastPlace
+
+-- what a text needs: the table and the letters
+pub record Readable (classes : List ℕ) (f : Form) : Type 0 where
+  pub table : classes ≡ table
+  pub letters : Lettered f

@@ -1,107 +1,252 @@
--- `dimacs::reader::walk` meets its contract: what is still to be read leads from the present state to where the whole text leads, and the
--- bytes of what is complete are written one behind the other. Assumes nothing.
+-- `dimacs::reader::walk` meets its contract: white space, zeros and literals lead on from each other, and each word is written behind the
+-- last. Assumes nothing.
 use mathlib.Core.Path.{_≡_, refl, sym, ap, _∙_, subst}
-use mathlib.Core.List.{List, _++_}
-use Prim.Native.Nat.{ℕ, _+_, _-_, _≤_}
+use mathlib.Core.Bool.{Bool, true, false, false≢true}
+use mathlib.Core.List.{List, []}
+use mathlib.Core.Logic.{_⊎_, inl, inr}
+use Prim.Native.Nat.{ℕ, _+_, _-_, _≤_, _<_}
 use native.Mathlib.Omega.{arith}
 use borrow.Author.Needs.{needs}
-use lib.ListN.{length, getD, drop}
-use Rattle.laws.specs.Automata.{run, output}
+use lib.Dec.{eqb}
+use lib.ListN.{length}
+use Rattle.laws.specs.Numbers.{little}
 use Rattle.laws.specs.Inner.Stores.{Stored}
-use Rattle.laws.proofs.Automata.{run-next, run-end, output-next, output-end}
-use Rattle.laws.proofs.Stored.{Storing, storing-start, storing-room, storing-length, storing-more, storing-end}
-use Rattle.body.specs.Inner.States.{stepOf, steppedOf}
-use Rattle.body.specs.declared.phase.Token.{Token}
+use Rattle.laws.proofs.Stored.{stored-as, stored-length}
+use Rattle.classes.specs.Classes.{classOf, code, isWhite}
+use Rattle.clausal.specs.Clauses.{literalBytes}
+use Rattle.body.specs.Inner.Table.{isDead, isNumber, isPlain}
+use Rattle.body.specs.Inner.States.{toOf, closeOf}
+use Rattle.body.specs.declared.phase.Phase.the-variants.{Between}
 use Rattle.body.specs.declared.state.State.{State}
-use Rattle.body.specs.declared.state.Stepped.{Stepped}
-use Rattle.body.proofs.Laws.Places.{place-step}
-use Rattle.dimacs.specs.Inner.Walks.{tokenBytes, tokenFor, stateFrom, putsFor, writtenFrom}
+use Rattle.dimacs.specs.Inner.Walks.{written, nextIn, Leads, Over, dead, end, Walked}
+use Rattle.dimacs.proofs.Laws.Leads.{leads-on}
+use Rattle.dimacs.proofs.Laws.Tokens.{white-leads, zero-leads, end-white}
+use Rattle.dimacs.proofs.Laws.Walks.{OnWay, way-start, none-stored, way-phase, way-length, way-room, way-more, way-over, way-end}
 use Rattle.dimacs.proofs.reader.walk.Statement.{statement}
 use Rattle.dimacs.proofs.reader.walk.Tie as tie
 
 abbrev Inv-loop : tie.InvT-loop
-Inv-loop text from writes out₀ state₀ at₀ i₀ out state at i =
-    (state .place ≤ i) × (run stepOf state (drop i text) ≡ stateFrom state₀ text from)
-    × Storing (writtenFrom writes state₀ text from) out₀ 0 (output stepOf (putsFor writes) state (drop i text)) out at
+Inv-loop classes text writes out₀ state₀ at₀ out state at = OnWay text state₀ writes out₀ state out at
 
 abbrev μ-loop : tie.MeasureT-loop
-μ-loop text from writes out₀ state₀ at₀ i₀ out state at i = length text - i
+μ-loop classes text writes out₀ state₀ at₀ out state at = length text - state .place
 
 abbrev start-of : tie.At-loop Inv-loop μ-loop → tie.Start Inv-loop μ-loop
-start-of c = c .before .before .before
+start-of c = c .before .before .before .before
 
--- the room that was asked for
-fits : (c : tie.At-loop Inv-loop μ-loop)
-    → let x = start-of c .args in 0 + length (writtenFrom (x .writes) (x .start) (x .text .now) (x .from)) ≤ length (x .out .now)
-fits c = omega (arith, start-of c .pre .room)
+-- what comes next, from where the loop is
+module _ (c : tie.At-loop Inv-loop μ-loop) where
+  abbrev text : List ℕ
+  text = start-of c .args .text .now
 
--- what is written with this byte, and what is left
-ahead : (c : tie.In-loop Inv-loop μ-loop) (r : State) → let l = c .before .loop in let x = start-of (c .before) .args in
-    r ≡ stepOf (l .state) (getD (x .text .now) (l .i) 0)
-    → Storing (writtenFrom (x .writes) (x .start) (x .text .now) (x .from)) (x .out .now) 0
-    (putsFor (x .writes) (l .state) (getD (x .text .now) (l .i) 0)
-    ++ output stepOf (putsFor (x .writes)) r (drop (l .i + 1) (x .text .now))) (l .out) (l .at)
-ahead c r e =
-    let l = c .before .loop in
-    let x = start-of (c .before) .args in
-    subst (λ (z : List ℕ). Storing (writtenFrom (x .writes) (x .start) (x .text .now) (x .from)) (x .out .now) 0 z (l .out) (l .at))
-    (output-next stepOf (putsFor (x .writes)) (l .state) r (x .text .now) (l .i) (c .loop-test .taken) e) (l .inv .2)
+  abbrev writes : Bool
+  writes = start-of c .args .writes
 
--- what is handed back with this byte
-stepped : (c : tie.After-step Inv-loop μ-loop) → let turn = c .before .before in let l = turn .before .loop in
-    c .step .result ≡ steppedOf (l .state) (getD (start-of (turn .before) .args .text .now) (l .i) 0)
-stepped c = c .step .ensures
+  abbrev state : State
+  state = c .loop .state
 
--- the token that is written of it
-token : (c : tie.After-token-for Inv-loop μ-loop) → let turn = c .before .before .before .before in let l = turn .before .loop in
-    let x = start-of (turn .before) .args in
-    c .token-for .result ≡ tokenFor (x .writes) (steppedOf (l .state) (getD (x .text .now) (l .i) 0) .token)
-token c =
-    let step = c .before .before in
-    let x = start-of (step .before .before .before) .args in
-    c .token-for .ensures ∙ ap (λ (z : Stepped). tokenFor (x .writes) (z .token)) (stepped step)
+  phase : state .place < length text → state .phase ≡ Between
+  phase = way-phase text (start-of c .args .start) writes (start-of c .args .out .now) (start-of c .pre .room) state (c .loop .out)
+      (c .loop .at) (c .loop .inv)
 
-has-room : (c : tie.After-token-for Inv-loop μ-loop) → let turn = c .before .before .before .before in let l = turn .before .loop in
-    l .at + length (tokenBytes (c .token-for .result) (l .state .value)) ≤ length (l .out)
-has-room c =
-    let turn = c .before .before .before .before in
-    let l = turn .before .loop in
-    let x = start-of (turn .before) .args in
-    let b = getD (x .text .now) (l .i) 0 in
-    let r = stepOf (l .state) b in
-    let rest = output stepOf (putsFor (x .writes)) r (drop (l .i + 1) (x .text .now)) in
-    rw (token c) (storing-room (fits (turn .before)) (putsFor (x .writes) (l .state) b) rest (ahead turn r refl))
+  same : length (c .loop .out) ≡ length (start-of c .args .out .now)
+  same = way-length text (start-of c .args .start) writes (start-of c .args .out .now) (start-of c .pre .room) state (c .loop .out)
+      (c .loop .at) (c .loop .inv)
+
+  module _ (r : State) (puts : List ℕ) (a : Leads text state puts r) where
+    room : c .loop .at + length (written writes puts) ≤ length (c .loop .out)
+    room = way-room text (start-of c .args .start) writes (start-of c .args .out .now) (start-of c .pre .room) state (c .loop .out)
+        (c .loop .at) (c .loop .inv) r puts a
+
+    module _ (m : List ℕ) (n : ℕ) (v : Stored (written writes puts) (c .loop .out) (c .loop .at) n m) where
+      more : (length text ≤ r .place) ⊎ (r .phase ≡ Between) → OnWay text (start-of c .args .start) writes (start-of c .args .out .now) r m n
+      more = way-more text (start-of c .args .start) writes (start-of c .args .out .now) (start-of c .pre .room) state (c .loop .out)
+          (c .loop .at) (c .loop .inv) r puts a m n v
+
+      over : Over text r → Walked text (start-of c .args .start) writes (start-of c .args .out .now) r m
+      over = way-over text (start-of c .args .start) writes (start-of c .args .out .now) (start-of c .pre .room) state (c .loop .out)
+          (c .loop .at) (c .loop .inv) r puts a m n v
+
+  none : Stored (written writes []) (c .loop .out) (c .loop .at) (c .loop .at) (c .loop .out)
+  none = none-stored text (start-of c .args .start) writes (start-of c .args .out .now) (c .loop .out) (c .loop .at)
+
+-- a byte was looked at
+abbrev at-of : tie.After-is-white Inv-loop μ-loop → tie.At-loop Inv-loop μ-loop
+at-of c = c .before .before .before .before
+
+inside : (c : tie.After-is-white Inv-loop μ-loop) → state (at-of c) .place < length (text (at-of c))
+inside c = c .before .before .if1 .taken
+
+-- white space
+loop-less : tie.Need-loop-less Inv-loop μ-loop
+loop-less c = omega (arith, inside (c .before .before), ap (λ (x : State). x .place) (c .pass .ensures))
 
 loop-again : tie.Need-loop-again Inv-loop μ-loop
 loop-again c =
-    let put = c .before .before .before in
-    let told = put .before in
-    let step = told .before .before in
-    let turn = step .before .before in
-    let l = turn .before .loop in
-    let x = start-of (turn .before) .args in
-    let text = x .text .now in
-    let b = getD text (l .i) 0 in
-    let r = step .step .result .state in
-    let e : r ≡ stepOf (l .state) b = ap (λ (z : Stepped). z .state) (stepped step) in
-    let rest = output stepOf (putsFor (x .writes)) r (drop (l .i + 1) text) in
-    let w = subst (λ (k : Token). Stored (tokenBytes k (l .state .value)) (l .out) (l .at) (put .put-token .result)
-    (put .put-token .last .0))
-    (token told) (put .put-token .ensures) in (
-      omega (arith, place-step (l .state) r b e),
-      run-next stepOf (l .state) r text (l .i) (turn .loop-test .taken) e ∙ l .inv .1,
-      storing-more (fits (turn .before)) (putsFor (x .writes) (l .state) b) rest (ahead turn r e) w,
-    )
+    let test = c .before .before in
+    let at = at-of test in
+    more at (c .pass .result) []
+    (white-leads (text at) (state at) (c .pass .result) (inside test) (phase at (inside test))
+    (sym (test .is-white .ensures) ∙ c .before .if2 .taken) (c .pass .ensures))
+    (at .loop .out) (at .loop .at) (none at) (inr (ap (λ (x : State). x .phase) (c .pass .ensures)))
+
+-- a zero
+white-of : tie.After-is-of Inv-loop μ-loop → tie.After-is-white Inv-loop μ-loop
+white-of c = c .before .before
+
+is-zero : (c : tie.Then3 Inv-loop μ-loop) → let at = at-of (c .before .before .before) in
+    eqb (code (classOf (nextIn (text at) (state at)))) 9 ≡ true
+is-zero c = sym (c .before .is-of .ensures) ∙ c .if3 .taken
+
+put-word-requires : tie.Need-put-word-requires Inv-loop μ-loop
+put-word-requires c κs =
+    let then = c .before in
+    let test = then .before .before .before in
+    let at = at-of test in
+    room at (closeOf (state at)) (little 4 0)
+    (zero-leads (text at) (state at) (closeOf (state at)) (inside test) (phase at (inside test)) (is-zero then) refl)
+
+zero-requires : tie.Need-zero-requires Inv-loop μ-loop
+zero-requires c κs =
+    let then = c .before .before .before .before in
+    let test = then .before .before .before in
+    let at = at-of test in
+    record { table = start-of at .pre .table; place = inside test; phase = phase at (inside test); zero = is-zero then }
+
+abbrev put-of : tie.After-zero Inv-loop μ-loop → tie.After-put-word Inv-loop μ-loop
+put-of c = c .before .before .before
+
+abbrev test-of : tie.After-zero Inv-loop μ-loop → tie.After-is-white Inv-loop μ-loop
+test-of c = put-of c .before .before .before .before .before
 
 returns : tie.Need-returns Inv-loop μ-loop
 returns c =
-    let l = c .before .loop in
-    let x = start-of (c .before) .args in
+    let zero = c .before .before in
+    let put = put-of zero in
+    over (at-of (test-of zero)) (zero .zero .result) (little 4 0) (zero .zero .ensures .leads) (put .put-word .last .1 .0)
+    (put .put-word .result) (put .put-word .ensures) (dead (sym (c .before .is-dead .ensures) ∙ c .if4 .taken))
+
+same-length : tie.Need-same-length Inv-loop μ-loop
+same-length c =
+    let zero = c .before .before in
+    let put = put-of zero in
+    let at = at-of (test-of zero) in
+    stored-length (room at (zero .zero .result) (little 4 0) (zero .zero .ensures .leads)) (put .put-word .ensures) ∙ same at
+
+live : (c : tie.Else4 Inv-loop μ-loop) → isDead (c .before .before .zero .result .phase) ≡ false
+live c = sym (c .before .is-dead .ensures) ∙ c .if4 .left
+
+loop-less-2 : tie.Need-loop-less-2 Inv-loop μ-loop
+loop-less-2 c =
+    let zero = c .before .before in
+    omega (arith, inside (test-of zero), zero .zero .ensures .further (live c))
+
+goes-on : (t : List ℕ) (r : State) → isDead (r .phase) ≡ false → Over t r ⊎ (r .phase ≡ Between)
+    → (length t ≤ r .place) ⊎ (r .phase ≡ Between)
+goes-on t r l (inl (dead e)) = absurd (false≢true (sym l ∙ e))
+goes-on t r l (inl (end h)) = inl h
+goes-on t r l (inr e) = inr e
+
+loop-again-2 : tie.Need-loop-again-2 Inv-loop μ-loop
+loop-again-2 c =
+    let zero = c .before .before in
+    let put = put-of zero in
+    let at = at-of (test-of zero) in
+    more at (zero .zero .result) (little 4 0) (zero .zero .ensures .leads) (put .put-word .last .1 .0) (put .put-word .result)
+    (put .put-word .ensures) (goes-on (text at) (zero .zero .result) (live c) (zero .zero .ensures .next))
+
+-- a literal
+literal-requires : tie.Need-literal-requires Inv-loop μ-loop
+literal-requires c κs =
+    let is-of = c .before in
+    let else = is-of .before in
+    let test = else .before in
+    let at = at-of test in
     record {
-      state = sym (run-end stepOf (l .state) (x .text .now) (l .i) (c .loop-test .left)) ∙ l .inv .1;
-      bytes =
-          storing-end (l .inv .2) (output-end stepOf (putsFor (x .writes)) (l .state) (x .text .now) (l .i) (c .loop-test .left)) .list;
+      table = start-of at .pre .table;
+      place = inside test;
+      phase = phase at (inside test);
+      apart = sym (test .is-white .ensures) ∙ else .if2 .left;
+      some = sym (is-of .is-of .ensures) ∙ c .if3 .left;
     }
+
+abbrev at-literal : tie.After-literal Inv-loop μ-loop → tie.At-loop Inv-loop μ-loop
+at-literal c = at-of (c .before .before .before .before)
+
+returns-2 : tie.Need-returns-2 Inv-loop μ-loop
+returns-2 c =
+    let lit = c .before .before in
+    let at = at-literal lit in
+    over at (lit .literal .result) [] (lit .literal .ensures .leads) (at .loop .out) (at .loop .at) (none at)
+    (dead (sym (c .before .is-dead2 .ensures) ∙ c .if5 .taken))
+
+returns-3 : tie.Need-returns-3 Inv-loop μ-loop
+returns-3 c =
+    let lit = c .before .before .before .before in
+    let at = at-literal lit in
+    over at (lit .literal .result) [] (lit .literal .ensures .leads) (at .loop .out) (at .loop .at) (none at) (end (c .if6 .taken))
+
+-- white space stands behind it
+behind : (t : List ℕ) (r : State) → isDead (r .phase) ≡ false → r .place < length t
+    → Over t r ⊎ ((isNumber (r .phase) ≡ true) × (isWhite (classOf (nextIn t r)) ≡ true))
+    → (isNumber (r .phase) ≡ true) × (isWhite (classOf (nextIn t r)) ≡ true)
+behind t r l h (inl (dead e)) = absurd (false≢true (sym l ∙ e))
+behind t r l h (inl (end n)) = absurd (omega arith)
+behind t r l h (inr e) = e
+
+abbrev literal-of : tie.Else6 Inv-loop μ-loop → tie.After-literal Inv-loop μ-loop
+literal-of c = c .before .before .before .before
+
+ends : (c : tie.Else6 Inv-loop μ-loop) (r : State) → let lit = literal-of c in let at = at-literal lit in let e = lit .literal .result in
+    r ≡ toOf e Between 0
+    → Leads (text at) (state at) (literalBytes (record { plain = isPlain (e .phase); variable = e .value })) r
+ends c r q =
+    let else = c .before .before in
+    let lit = literal-of c in
+    let at = at-literal lit in
+    let e = lit .literal .result in
+    let h : e .place < length (text at) = omega (arith, c .if6 .left) in
+    let w = behind (text at) e (sym (else .before .is-dead2 .ensures) ∙ else .if5 .left) h (lit .literal .ensures .next) in
+    leads-on (lit .literal .ensures .leads) (end-white (text at) e r h (w .0) (w .1) q)
+
+put-word-requires-2 : tie.Need-put-word-requires-2 Inv-loop μ-loop
+put-word-requires-2 c κs =
+    let else = c .before .before in
+    let lit = literal-of else in
+    let at = at-literal lit in
+    let r = toOf (lit .literal .result) Between 0 in
+    subst (λ (xs : List ℕ). at .loop .at + length (written (writes at) xs) ≤ length (at .loop .out)) (sym (c .word-of .ensures))
+    (room at r _ (ends else r refl))
+
+pass-requires-2 : tie.Need-pass-requires-2 Inv-loop μ-loop
+pass-requires-2 c κs =
+    let put = c .before .before in
+    let else = put .before .before .before in
+    omega (arith, else .if6 .left, at-literal (literal-of else) .before)
+
+abbrev else-of : tie.After-pass2 Inv-loop μ-loop → tie.Else6 Inv-loop μ-loop
+else-of c = let put = c .before .before .before in put .before .before .before
+
+loop-less-3 : tie.Need-loop-less-3 Inv-loop μ-loop
+loop-less-3 c =
+    let lit = literal-of (else-of c) in
+    omega (
+      arith,
+      inside (lit .before .before .before .before),
+      lit .literal .ensures .leads .onward,
+      else-of c .if6 .left,
+      ap (λ (x : State). x .place) (c .pass2 .ensures),
+    )
+
+loop-again-3 : tie.Need-loop-again-3 Inv-loop μ-loop
+loop-again-3 c =
+    let put = c .before .before .before in
+    let else = else-of c in
+    let lit = literal-of else in
+    let at = at-literal lit in
+    more at (c .pass2 .result) _ (ends else (c .pass2 .result) (c .pass2 .ensures)) (put .put-word2 .last .1 .0) (put .put-word2 .result)
+    (stored-as (ap (written (writes at)) (sym (put .before .word-of .ensures))) (put .put-word2 .ensures))
+    (inr (ap (λ (x : State). x .phase) (c .pass2 .ensures)))
 
 pub walk-spec : {M : Type 1} → statement M
 walk-spec =
@@ -109,13 +254,32 @@ walk-spec =
     (tie.spec
     Inv-loop
     μ-loop
-    (λ c. let s = c .before .before in (s .pre .place, refl, storing-start _ _ _))
-    (λ c. omega arith)
-    (λ c κs. omega arith)
-    (λ c κs. search needs)
-    (λ c κs. has-room c)
-    (λ c. omega arith)
-    (λ c. omega arith)
+    (λ c. let s = c .before .before .before in way-start (s .args .text .now) (s .args .start) (s .args .writes) (s .args .out .now)
+    (s .pre .place) (s .pre .phase))
+    (λ c. c .before .if1 .taken)
+    (λ c κs. start-of (c .before .before .before) .pre .table)
+    (λ c κs. omega (arith, c .before .before .before .if1 .taken))
+    loop-less
     loop-again
-    (λ c. storing-length (fits (c .before)) _ (c .before .loop .inv .2))
-    returns)
+    (λ c κs. start-of (c .before .before .before .before .before) .pre .table)
+    put-word-requires
+    zero-requires
+    (λ c κs. search needs)
+    same-length
+    returns
+    loop-less-2
+    loop-again-2
+    literal-requires
+    (λ c κs. search needs)
+    (λ c. same (at-literal (c .before .before)))
+    returns-2
+    (λ c. same (at-literal (c .before .before .before .before)))
+    returns-3
+    (λ c κs. search needs)
+    put-word-requires-2
+    pass-requires-2
+    loop-less-3
+    loop-again-3
+    (λ c. same (c .before .before))
+    (λ c. let at = c .before .before in let s = start-of at in way-end (s .args .text .now) (s .args .start) (s .args .writes) (s .args .out .now)
+    (s .pre .room) (at .loop .state) (at .loop .out) (at .loop .at) (at .loop .inv) (c .if1 .left)))

@@ -8,14 +8,14 @@ use Rattle.header.specs.Inner.Heads.{takenOf, isBlank}
 use Rattle.header.proofs.Head.before_number.Statement.{statement}
 use Rattle.header.proofs.Head.before_number.Tie as tie
 
-no-blank : (c : tie.Else1) → isBlank (c .before .before .args .byte) ≡ false
+no-blank : (c : tie.Else1) → isBlank (c .before .before .before .args .byte) ≡ false
 no-blank c = sym (c .before .is-blank .ensures) ∙ c .if1 .left
 
 returns-2 : tie.Need-returns-2
 returns-2 c =
     let digit = c .before .before in
     let test = digit .before .before in
-    let x = test .before .before .before .args in
+    let x = test .before .before .before .before .args in
     let is = sym (test .is-digit .ensures) ∙ digit .before .if2 .taken in
     rw (no-blank (test .before), is)
     (c .taken .ensures

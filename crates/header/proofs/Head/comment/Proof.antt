@@ -1,6 +1,6 @@
 -- `header::Head::comment` meets its contract: a newline, or not. Assumes nothing.
+use mathlib.Core.Path.{sym, _∙_}
 use borrow.Author.Needs.{needs}
-use borrow.Author.Tests.{eq-eqb, ne-eqb}
 use Rattle.header.proofs.Head.comment.Statement.{statement}
 use Rattle.header.proofs.Head.comment.Tie as tie
 
@@ -9,6 +9,7 @@ comment-spec =
     tie.close
     (tie.spec
     (λ c κs. search needs)
-    (λ c. rw (eq-eqb _ 10 (c .before .if1 .taken)) (c .to .ensures))
     (λ c κs. search needs)
-    (λ c. rw (ne-eqb _ 10 (c .before .if1 .left)) (c .to2 .ensures)))
+    (λ c. let e = sym (c .before .before .is-newline .ensures) ∙ c .before .if1 .taken in rw e (c .to .ensures))
+    (λ c κs. search needs)
+    (λ c. let e = sym (c .before .before .is-newline .ensures) ∙ c .before .if1 .left in rw e (c .to2 .ensures)))

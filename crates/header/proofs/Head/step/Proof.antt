@@ -12,6 +12,11 @@ by-phase : (s : tie.Start) {p : Phase} → s .args .self .phase ≡ p
     (s .args .byte)
 by-phase s e = ap (λ (p : Phase). stepIn p (s .args .form) (s .args .self) (s .args .byte)) e
 
+returns : tie.Need-returns
+returns c =
+    let told = c .before .before in
+    c .step-at .ensures ∙ sym (by-phase (told .before .before .before) (told .phase .given .1))
+
 pub step-spec : {M : Type 1} → statement M
 step-spec =
     tie.close
@@ -20,6 +25,6 @@ step-spec =
     (λ c κs. search needs)
     (λ c. search needs)
     (λ c. search needs)
-    (λ c. let told = c .before .before in c .step-at .ensures ∙ sym (by-phase (told .before .before) (told .phase .given .1)))
-    (λ c. sym (by-phase (c .before .before) (c .enum-told .given .1)))
-    (λ c. sym (by-phase (c .before .before) (c .enum-told2 .given .1))))
+    returns
+    (λ c. sym (by-phase (c .before .before .before) (c .enum-told .given .1)))
+    (λ c. sym (by-phase (c .before .before .before) (c .enum-told2 .given .1))))
