@@ -1,6 +1,6 @@
 // The phases of the reader behind the header.
 ghost use mathlib.Core.Path.{_≡_};
-ghost use Rattle.body.specs.Inner.Table.{endsIn, isDead, isNumber, isPlain};
+ghost use Rattle.body.specs.Inner.Table.{endsIn, isDead, isNumber};
 
 // Where in a text the reader is.
 pub enum Phase {
@@ -56,20 +56,6 @@ pub fn is_number(phase: Phase) -> bool
         Phase::Sign => false,
         Phase::Plain => true,
         Phase::Negated => true,
-        Phase::Dead => false,
-    }
-}
-
-// Whether it is in the digits of a literal without `-`.
-pub fn is_plain(phase: Phase) -> bool
-    ensures { λ r. ⌜ r ≡ isPlain phase ⌝ }
-{
-    match phase {
-        Phase::Between => false,
-        Phase::Closed => false,
-        Phase::Sign => false,
-        Phase::Plain => true,
-        Phase::Negated => false,
         Phase::Dead => false,
     }
 }

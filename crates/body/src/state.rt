@@ -4,13 +4,12 @@
 ghost use mathlib.Core.Path.{_≡_};
 ghost use Prim.Native.Nat.{_<_, _-_};
 ghost use Rattle.header.specs.Inner.Heads.{lastPlace};
-ghost use Rattle.body.specs.Inner.Table.{Begin, Lead, Grow, isDead, isNumber, isPlain};
+ghost use Rattle.body.specs.Inner.Table.{Begin, Lead, Grow, isDead, isNumber};
 ghost use Rattle.body.specs.Inner.States.{startOf, toOf, deadOf, closeOf, openOf, turnOf, moveOf, accepts, Digit};
 use crate::phase::Phase;
 use crate::phase::ends_in;
 use crate::phase::is_dead;
 use crate::phase::is_number;
-use crate::phase::is_plain;
 use clausebytes::limits::MOST_LITERALS;
 
 pub struct State {
@@ -69,14 +68,6 @@ impl State {
     {
         let phase = self.phase;
         is_number(phase)
-    }
-
-    // Whether it is in the digits of a literal without `-`.
-    pub fn is_plain(self) -> bool
-        ensures { λ r. ⌜ r ≡ isPlain (self .phase) ⌝ }
-    {
-        let phase = self.phase;
-        is_plain(phase)
     }
 
     // One byte on, to a phase, with what is read of a literal there.

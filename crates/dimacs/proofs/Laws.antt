@@ -7,6 +7,7 @@ pub mod Walks
 pub mod Bodies
 pub mod Steps
 pub mod Texts
+pub mod Copies
 pub mod ReadCall
 pub mod Written
 pub mod WriteCall

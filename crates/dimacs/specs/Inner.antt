@@ -2,4 +2,5 @@
 -- `proofs/Reading` says that the reader is the grammar's, so nothing here is to be believed.
 pub mod Words
 pub mod Walks
+pub mod Copies
 pub mod Calls

@@ -1,4 +1,5 @@
 // DIMACS CNF: writing clause bytes as text, and reading text as clause bytes.
+mod copier;
 mod reader;
 mod writer;
 
@@ -87,14 +88,14 @@ pub fn read(text: &[u8], clauses: &mut [u8]) -> Answer
     let variables = head.before;
     let declared = head.value;
     let start = State::start(from, variables, declared);
-    let end = reader::walk(&classes, text, start, false, clauses);
+    let end = reader::check(&classes, text, start);
     if !end.is_accepted() {
         return Answer::Text { place: end.place };
     }
     if clauses.len() < room(declared, end.literals) {
         return Answer::Room;
     }
-    reader::walk(&classes, text, start, true, clauses);
+    copier::copy(&classes, text, from, variables, declared, clauses);
     Answer::Accepted {
         first: variables,
         second: declared,

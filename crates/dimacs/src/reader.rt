@@ -1,13 +1,6 @@
-// Reading what stands behind a header: once to learn whether it is accepted, and once more to write its clause bytes.
+// Reading what stands behind a header, to learn whether it is accepted: literals and zeros, each in functions that compile to short loops.
 ghost use mathlib.Core.Path.{_≡_};
-ghost use Prim.Native.Nat.{_+_, _≤_};
-ghost use lib.ListN.{length};
-ghost use Rattle.laws.specs.Inner.Stores.{Stored};
-ghost use Rattle.laws.specs.Numbers.{little};
-ghost use Rattle.clausal.specs.Clauses.{literalBytes};
-ghost use Rattle.body.specs.Inner.Table.{isPlain};
-ghost use Rattle.dimacs.specs.Inner.Walks.{written, AtZero, Zeroed, AtLiteral, Begun, InDigits, Ended, Spelt, Walking, Walked};
-use answer::put;
+ghost use Rattle.dimacs.specs.Inner.Walks.{stateFrom, AtZero, Zeroed, AtLiteral, Begun, InDigits, Ended, Spelt, Walking};
 use body::State;
 use classes::DIGIT;
 use classes::MINUS;
@@ -15,29 +8,6 @@ use classes::NOUGHT;
 use classes::is_digit;
 use classes::is_of;
 use classes::is_white;
-use clausebytes::word::complement;
-
-// Writes a word where words are to be written, and returns the next place.
-fn put_word(writes: bool, out: &mut [u8], at: usize, word: u32) -> usize
-    requires { ⌜ at + length (written writes (little 4 word)) ≤ length (now out) ⌝ }
-    ensures { λ r. ⌜ Stored (written writes (little 4 word)) (now (out .entry)) at r (now (out .exit)) ⌝ }
-{
-    if writes {
-        put(out, at, word);
-        return at + 4;
-    }
-    at
-}
-
-// The word of the literal that is read.
-fn word_of(state: State) -> u32
-    ensures { λ r. ⌜ little 4 r ≡ literalBytes (record { plain = isPlain (state .phase); variable = state .value }) ⌝ }
-{
-    if state.is_plain() {
-        return state.value;
-    }
-    complement(state.value)
-}
 
 // Reads a zero, and the white space right behind it.
 fn zero(classes: &[u8], text: &[u8], start: State) -> State
@@ -129,20 +99,18 @@ fn literal(classes: &[u8], text: &[u8], start: State) -> State
     end
 }
 
-// Reads a text from the state's place on, and writes its clause bytes if it is to; returns the state after it.
-pub fn walk(classes: &[u8], text: &[u8], start: State, writes: bool, out: &mut [u8]) -> State
-    requires { ⌜ Walking (now classes) (now text) start writes (now out) ⌝ }
-    ensures { λ r. ⌜ Walked (now (text .entry)) start writes (now (out .entry)) r (now (out .exit)) ⌝ }
+// Reads a text from the state's place on; returns the state after it.
+pub fn check(classes: &[u8], text: &[u8], start: State) -> State
+    requires { ⌜ Walking (now classes) (now text) start ⌝ }
+    ensures { λ r. ⌜ r ≡ stateFrom start (now (text .entry)) (start .place) ⌝ }
 {
     let mut state = start;
-    let mut at = 0;
     while state.place < text.len() {
         let i = state.place;
         let byte = text[i];
         if is_white(classes, byte) {
             state = state.pass();
         } else if is_of(classes, byte, NOUGHT) {
-            at = put_word(writes, out, at, 0);
             state = zero(classes, text, state);
             if state.is_dead() {
                 return state;
@@ -155,7 +123,6 @@ pub fn walk(classes: &[u8], text: &[u8], start: State, writes: bool, out: &mut [
             if end.place >= text.len() {
                 return end;
             }
-            at = put_word(writes, out, at, word_of(end));
             state = end.pass();
         }
     }

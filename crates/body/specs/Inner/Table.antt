@@ -73,7 +73,7 @@ endsIn Plain = false
 endsIn Negated = false
 endsIn Dead = false
 
--- whether no accepted text begins so; whether the reader is in the digits of a literal, and of one without `-`
+-- whether no accepted text begins so; whether the reader is in the digits of a literal
 abbrev pub isDead : Phase → Bool
 isDead Between = false
 isDead Closed = false
@@ -89,11 +89,3 @@ isNumber Sign = false
 isNumber Plain = true
 isNumber Negated = true
 isNumber Dead = false
-
-abbrev pub isPlain : Phase → Bool
-isPlain Between = false
-isPlain Closed = false
-isPlain Sign = false
-isPlain Plain = true
-isPlain Negated = false
-isPlain Dead = false

@@ -2,19 +2,16 @@
 -- Assumes nothing.
 use mathlib.Core.Path.{_≡_, refl, sym, ap, _∙_}
 use mathlib.Core.Bool.{Bool, true, false, false≢true}
-use mathlib.Core.List.{List}
 use Prim.Native.Nat.{ℕ, _-_, _≤_}
 use native.Mathlib.Omega.{arith}
 use lib.Dec.{eqb}
 use Rattle.classes.specs.Classes as class
 use Rattle.classes.specs.Classes.{Class, classOf, code, isWhite, isDigit}
-use Rattle.clausal.specs.Clauses.{literalBytes}
-use Rattle.body.specs.Inner.Table.{Sort, Nought, Digit, Minus, White, sortIn, sortOf, Act, Die, Grow, row, actOf, tokenOf, isNumber, isPlain}
+use Rattle.body.specs.Inner.Table.{Sort, Nought, Digit, Minus, White, sortIn, sortOf, Act, Die, Grow, row, actOf, isNumber}
 use Rattle.body.specs.Inner.States.{toOf, moveOf}
 use Rattle.body.specs.declared.phase.Phase.{Phase}
 use Rattle.body.specs.declared.phase.Phase.the-variants.{Between, Closed, Sign, Plain, Negated, Dead}
 use Rattle.body.specs.declared.state.State.{State}
-use Rattle.dimacs.specs.Inner.Walks.{tokenBytes}
 use Rattle.dimacs.proofs.Laws.Live.{Is, sort-is}
 
 -- a law of every class, by the classes in their order
@@ -101,15 +98,15 @@ pub number-dies : (p : Phase) → isNumber p ≡ true → (k : Class) → isWhit
 number-dies =
     by-number (λ p. (k : Class) → isWhite k ≡ false → isDigit k ≡ false → actOf p (sortIn k) ≡ Die) (row-dies _) (row-dies _)
 
--- white space behind a literal: its word, and the reader is between literals
+-- white space behind a literal: the reader is between literals
 pub number-ends : (p : Phase) → isNumber p ≡ true → (s : State) (d : ℕ) → toOf s Between 0 ≡ moveOf (actOf p White) s d
 number-ends = by-number (λ p. (s : State) (d : ℕ) → toOf s Between 0 ≡ moveOf (actOf p White) s d) (λ s d. refl) (λ s d. refl)
 
-pub number-bytes : (p : Phase) → isNumber p ≡ true → (x : ℕ)
-    → tokenBytes (tokenOf (actOf p White)) x ≡ literalBytes (record { plain = isPlain p; variable = x })
-number-bytes =
-    by-number (λ p. (x : ℕ) → tokenBytes (tokenOf (actOf p White)) x ≡ literalBytes (record { plain = isPlain p; variable = x }))
-    (λ x. refl) (λ x. refl)
+-- a digit is no white space
+pub digit-no-white : (k : Class) → isDigit k ≡ true → isWhite k ≡ false
+digit-no-white =
+    by-class (λ k. isDigit k ≡ true → isWhite k ≡ false)
+    no no no no no no no no no (λ _. refl) (λ _. refl)
 
 -- a digit is `0` or above it
 least-in : (b : ℕ) (k : Class) → Is (sortIn k) b → isDigit k ≡ true → 48 ≤ b

@@ -7,7 +7,6 @@ use Prim.Native.Nat.{ℕ, _≤_, _<_}
 use native.Mathlib.Omega.{arith}
 use lib.ListN.{length}
 use Rattle.laws.specs.Lists.{splice}
-use Rattle.laws.proofs.Stored.{stored-nothing}
 use Rattle.header.specs.Inner.Heads.{isDone, headOf}
 use Rattle.header.specs.declared.Head.{Head}
 use Rattle.answer.specs.Answers.{stored}
@@ -18,7 +17,7 @@ use Rattle.clausebytes.proofs.Encoded.{length-clauses}
 use Rattle.body.specs.Inner.States.{startOf, accepts}
 use Rattle.body.specs.declared.state.State.{State}
 use Rattle.dimacs.specs.Texts.{cnf}
-use Rattle.dimacs.specs.Inner.Walks.{stateFrom, bytesFrom, Walked}
+use Rattle.dimacs.specs.Inner.Walks.{stateFrom, bytesFrom}
 use Rattle.dimacs.specs.Inner.Calls.{readCall}
 use Rattle.dimacs.proofs.Laws.Texts.{body-of-text, text-of-body}
 
@@ -38,27 +37,23 @@ module _ (t buffer : List ℕ) {h : Head} (g : h ≡ headOf cnf t) where
       subst (λ (x : Head). isDone (x .phase) ≡ false → record { answer = Text (x .place); output = buffer } ≡ readCall t buffer) (sym g)
       (λ e. rw e)
 
--- What is known after the head and the first reading of what follows: it started in s, it ended in e, and it left the buffer as `left`.
-pub record Seen (t buffer : List ℕ) (h : Head) (s e : State) (left : List ℕ) : Type 0 where
+-- what is known after the head and the first reading of what follows, which ended in e
+pub record Seen (t : List ℕ) (h : Head) (e : State) : Type 0 where
   pub head : h ≡ headOf cnf t
   pub done : isDone (h .phase) ≡ true
-  pub start : s ≡ startAt h
-  pub walked : Walked t s false buffer e left
+  pub read : e ≡ endAt h t
 
-module _ {t buffer : List ℕ} {h : Head} {s e : State} {left : List ℕ} (k : Seen t buffer h s e left) where
-  left-same : left ≡ buffer
-  left-same = k .walked .bytes ∙ sym (stored-nothing buffer 0 .list)
-
+module _ {t : List ℕ} (buffer : List ℕ) {h : Head} {e : State} (k : Seen t h e) where
   done : isDone (headOf cnf t .phase) ≡ true
   done = ap (λ (x : Head). isDone (x .phase)) (sym (k .head)) ∙ k .done
 
   end-is : e ≡ endAt (headOf cnf t) t
-  end-is = k .walked .state ∙ ap (λ (x : State). stateFrom x t (x .place)) (k .start) ∙ ap (λ (x : Head). endAt x t) (k .head)
+  end-is = k .read ∙ ap (λ (x : Head). endAt x t) (k .head)
 
-  pub read-refused : accepts e ≡ false → record { answer = Text (e .place); output = left } ≡ readCall t buffer
+  pub read-refused : accepts e ≡ false → record { answer = Text (e .place); output = buffer } ≡ readCall t buffer
   read-refused f =
       let n : accepts (endAt (headOf cnf t) t) ≡ false = ap accepts (sym end-is) ∙ f in
-      (λ i. record { answer = Text (end-is i .place); output = left-same i }) ∙ rw (done, n)
+      (λ i. record { answer = Text (end-is i .place); output = buffer }) ∙ rw (done, n)
 
   module _ (f : accepts e ≡ true) where
     accepted : accepts (endAt (headOf cnf t) t) ≡ true
@@ -77,23 +72,21 @@ module _ {t buffer : List ℕ} {h : Head} {s e : State} {left : List ℕ} (k : S
         ∙ (λ i. roomOf (sym (w .4) i) (sym (w .2) i))
         ∙ sym (λ i. roomOf (k .head i .value) (end-is i .literals))
 
-    pub read-no-room : length left < roomOf (h .value) (e .literals) → record { answer = Room; output = left } ≡ readCall t buffer
+    pub read-no-room : length buffer < roomOf (h .value) (e .literals) → record { answer = Room; output = buffer } ≡ readCall t buffer
     read-no-room n =
-        ap (λ (l : List ℕ). record { answer = Room; output = l }) left-same
-        ∙ stored-short (Accepted (h .before) (h .value)) (bytesAt (headOf cnf t) t) buffer (omega (arith, size, ap length left-same))
-        ∙ read-stored
+        stored-short (Accepted (h .before) (h .value)) (bytesAt (headOf cnf t) t) buffer (omega (arith, size)) ∙ read-stored
 
     -- there is room: the second reading writes
-    module _ (n : roomOf (h .value) (e .literals) ≤ length left) where
-      bytes-are : bytesFrom s t (s .place) ≡ bytesAt (headOf cnf t) t
-      bytes-are = ap (λ (x : State). bytesFrom x t (x .place)) (k .start) ∙ ap (λ (x : Head). bytesAt x t) (k .head)
+    module _ (n : roomOf (h .value) (e .literals) ≤ length buffer) where
+      bytes-are : bytesAt h t ≡ bytesAt (headOf cnf t) t
+      bytes-are = ap (λ (x : Head). bytesAt x t) (k .head)
 
-      pub read-room : length (bytesFrom s t (s .place)) ≤ length left
+      pub read-room : length (bytesAt h t) ≤ length buffer
       read-room = omega (arith, ap length bytes-are, size)
 
-      pub read-accepted : {r : State} {after : List ℕ} → Walked t s true left r after
+      pub read-accepted : {after : List ℕ} → after ≡ splice buffer 0 (bytesAt h t)
           → record { answer = Accepted (h .before) (h .value); output = after } ≡ readCall t buffer
       read-accepted {after = after} w =
-          stored-fits (Accepted (h .before) (h .value)) (bytesAt (headOf cnf t) t) buffer after (omega (arith, size, ap length left-same))
-          (w .bytes ∙ (λ i. splice (left-same i) 0 (bytes-are i)))
+          stored-fits (Accepted (h .before) (h .value)) (bytesAt (headOf cnf t) t) buffer after (omega (arith, size))
+          (w ∙ ap (splice buffer 0) bytes-are)
           ∙ read-stored

@@ -1,21 +1,19 @@
 -- Literals and zeros, byte by byte: in which phase the reader is behind each byte of one, and what reading one gives in each of its cases.
 -- Assumes nothing.
-use mathlib.Core.Path.{_≡_, refl, sym, ap, _∙_, subst, subst⁻¹}
-use mathlib.Core.Bool.{Bool, true, false, cond, false≢true}
-use mathlib.Core.List.{List, []}
+use mathlib.Core.Path.{_≡_, refl, sym, ap, _∙_, subst⁻¹}
+use mathlib.Core.Bool.{Bool, true, false, cond, false≢true, _&&_}
+use mathlib.Core.List.{List}
 use mathlib.Core.Logic.{_⊎_, inl, inr}
-use Prim.Native.Nat.{ℕ, _+_, _-_, _≤_, _<_}
+use Prim.Native.Nat.{ℕ, _+_, _*_, _-_, _≤_, _<_}
 use native.Mathlib.Omega.{arith}
 use lib.Dec.{eqb, ltb}
 use lib.ListN.{length}
-use Rattle.laws.specs.Numbers.{little}
 use Rattle.text.specs.Inner.Numbers.{grownOf}
 use Rattle.text.specs.declared.number.Number.{Number}
 use Rattle.text.specs.declared.number.Number.the-variants.{Wrong, Is}
 use Rattle.classes.specs.Classes.{classOf, code, isWhite, isDigit}
-use Rattle.clausal.specs.Clauses.{literalBytes}
 use Rattle.clausebytes.specs.Words.{mostLiterals}
-use Rattle.body.specs.Inner.Table.{Sort, Nought, Digit, Minus, White, Act, sortOf, actOf, isDead, isNumber, isPlain}
+use Rattle.body.specs.Inner.Table.{Sort, Nought, Digit, Minus, White, Act, sortOf, actOf, isDead, isNumber}
 use Rattle.body.specs.Inner.Table as act
 use Rattle.body.specs.Inner.States.{toOf, deadOf, takenOf, closeOf, openOf, begunOf, turnOf, moveOf}
 use Rattle.body.specs.declared.phase.Phase.{Phase}
@@ -23,52 +21,58 @@ use Rattle.body.specs.declared.phase.Phase.the-variants.{Between, Closed, Sign,
 use Rattle.body.specs.declared.state.State.{State}
 use Rattle.dimacs.specs.Inner.Walks.{nextIn, Leads, Over, dead, end, Zeroed, Begun, Ended, Spelt}
 use Rattle.dimacs.proofs.Laws.Bytes.{white-sort, nought-sort, digit-sort, minus-sort, between-dies, closed-dies, sign-dies}
-use Rattle.dimacs.proofs.Laws.Bytes.{number-grows, number-dies, number-ends, number-bytes}
-use Rattle.dimacs.proofs.Laws.Leads.{leads-by, leads-on, leads-more, further-by}
+use Rattle.dimacs.proofs.Laws.Bytes.{number-grows, number-dies, number-ends}
+use Rattle.dimacs.proofs.Laws.Leads.{leads-by, leads-on, further-by}
 
--- in a phase, or dead
-abbrev pub Or : Phase → State → Type 0
-Or p r = (isDead (r .phase) ≡ true) ⊎ (r .phase ≡ p)
+-- the value after a digit, or a wrong number
+by-grown : (begun : Bool) (x d most : ℕ) (Q : Number → Type 0) → Q Wrong → Q (Is (x * 10 + d)) → Q (grownOf begun x d most)
+by-grown begun x d most Q wrong is = go (begun && eqb x 0) (ltb most (x * 10 + d))
+  where
+    go : (a b : Bool) → Q (cond a Wrong (cond b Wrong (Is (x * 10 + d))))
+    go true b = wrong
+    go false true = wrong
+    go false false = is
 
-pub or-live : (p : Phase) (r : State) → Or p r → isDead (r .phase) ≡ false → r .phase ≡ p
-or-live p r (inl e) f = absurd (false≢true (sym f ∙ e))
-or-live p r (inr e) f = e
+-- a state that is in a phase, with this read of a literal, unless it is dead
+abbrev pub Gives : Phase → ℕ → State → Type 0
+Gives p x r = isDead (r .phase) ≡ false → (r .phase ≡ p) × (r .value ≡ x)
 
 module _ (s : State) where
-  either : (p : Phase) (c : Bool) (x : State) → Or p x → Or p (cond c x (deadOf s))
-  either p true x o = o
-  either p false x o = inl refl
+  dead-gives : (p : Phase) (x : ℕ) → Gives p x (deadOf s)
+  dead-gives p x e = absurd (false≢true (sym e))
 
-  open-or : (p : Phase) (x : ℕ) → Or p (openOf s p x)
-  open-or p x =
-      either p (ltb (s .clauses) (s .declared)) _ (either p (ltb (s .literals) mostLiterals) _ (inr refl))
+  either : (p : Phase) (x : ℕ) (c : Bool) (r : State) → Gives p x r → Gives p x (cond c r (deadOf s))
+  either p x true r g = g
+  either p x false r g = dead-gives p x
 
-  pub close-or : Or Closed (closeOf s)
-  close-or = either Closed (ltb (s .clauses) (s .declared)) _ (inr refl)
+  open-gives : (p : Phase) (x : ℕ) → Gives p x (openOf s p x)
+  open-gives p x =
+      either p x (ltb (s .clauses) (s .declared)) _ (either p x (ltb (s .literals) mostLiterals) _ (λ _. (refl, refl)))
 
-  pub turn-or : Or Sign (turnOf s)
-  turn-or = go (eqb (s .variables) 0)
+  pub close-gives : Gives Closed 0 (closeOf s)
+  close-gives = either Closed 0 (ltb (s .clauses) (s .declared)) _ (λ _. (refl, refl))
+
+  pub turn-gives : Gives Sign 0 (turnOf s)
+  turn-gives = go (eqb (s .variables) 0)
     where
-      go : (c : Bool) → Or Sign (cond c (deadOf s) (openOf s Sign 0))
-      go true = inl refl
-      go false = open-or Sign 0
+      go : (c : Bool) → Gives Sign 0 (cond c (deadOf s) (openOf s Sign 0))
+      go true = dead-gives Sign 0
+      go false = open-gives Sign 0
 
-  begun-or : (z : Number) → Or Plain (begunOf s z)
-  begun-or Wrong = inl refl
-  begun-or (Is x) = open-or Plain x
+  pub begin-gives : (d : ℕ) → Gives Plain (0 * 10 + d) (moveOf act.Begin s d)
+  begin-gives d =
+      by-grown false 0 d (s .variables) (λ z. Gives Plain (0 * 10 + d) (begunOf s z)) (dead-gives Plain (0 * 10 + d))
+      (open-gives Plain (0 * 10 + d))
 
-  taken-or : (p : Phase) (z : Number) → Or p (takenOf s p z)
-  taken-or p Wrong = inl refl
-  taken-or p (Is x) = inr refl
+  taken-gives : (p : Phase) (begun : Bool) (x d : ℕ) → Gives p (x * 10 + d) (takenOf s p (grownOf begun x d (s .variables)))
+  taken-gives p begun x d =
+      by-grown begun x d (s .variables) (λ z. Gives p (x * 10 + d) (takenOf s p z)) (dead-gives p (x * 10 + d)) (λ _. (refl, refl))
 
-  pub begin-or : (d : ℕ) → Or Plain (moveOf act.Begin s d)
-  begin-or d = begun-or (grownOf false 0 d (s .variables))
+  pub lead-gives : (d : ℕ) → Gives Negated (0 * 10 + d) (moveOf act.Lead s d)
+  lead-gives d = taken-gives Negated false 0 d
 
-  pub lead-or : (d : ℕ) → Or Negated (moveOf act.Lead s d)
-  lead-or d = taken-or Negated (grownOf false 0 d (s .variables))
-
-  pub grow-or : (d : ℕ) → Or (s .phase) (moveOf act.Grow s d)
-  grow-or d = taken-or (s .phase) (grownOf true (s .value) d (s .variables))
+  pub grow-gives : (d : ℕ) → Gives (s .phase) (s .value * 10 + d) (moveOf act.Grow s d)
+  grow-gives d = taken-gives (s .phase) true (s .value) d
 
 -- the act in a phase, for a byte of a sort and for any byte
 pub act-in : (s : State) (b : ℕ) (p : Phase) (k : Sort) → s .phase ≡ p → sortOf b ≡ k → actOf (s .phase) (sortOf b) ≡ actOf p k
@@ -84,7 +88,7 @@ dead-is s r e = ap (λ (x : State). isDead (x .phase)) e
 -- white space between literals
 pub white-leads : (text : List ℕ) (s r : State) → s .place < length text → s .phase ≡ Between → isWhite (classOf (nextIn text s)) ≡ true
     → r ≡ toOf s Between 0
-    → Leads text s [] r
+    → Leads text s r
 white-leads text s r h p w q =
     leads-by text s r act.Go h (act-in s (nextIn text s) Between White p (white-sort (classOf (nextIn text s)) w)) q
 
@@ -94,7 +98,7 @@ module _ (text : List ℕ) (s r : State) (h : s .place < length text) (p : s .ph
   act-zero : actOf (s .phase) (sortOf (nextIn text s)) ≡ act.Close
   act-zero = act-in s (nextIn text s) Between Nought p (nought-sort (classOf (nextIn text s)) z)
 
-  pub zero-leads : Leads text s (little 4 0) r
+  zero-leads : Leads text s r
   zero-leads = leads-by text s r act.Close h act-zero q
 
   pub zero-dead : isDead (r .phase) ≡ true → Zeroed text s r
@@ -103,7 +107,7 @@ module _ (text : List ℕ) (s r : State) (h : s .place < length text) (p : s .ph
   -- it closed a clause
   module _ (l : isDead (r .phase) ≡ false) where
     closed : r .phase ≡ Closed
-    closed = or-live Closed r (subst⁻¹ (Or Closed) q (close-or s)) l
+    closed = subst⁻¹ (Gives Closed 0) q (close-gives s) l .0
 
     pub zero-place : r .place ≡ s .place + 1
     zero-place = further-by text s r act.Close act-zero q l
@@ -115,7 +119,7 @@ module _ (text : List ℕ) (s r : State) (h : s .place < length text) (p : s .ph
       pub zero-wrong : isWhite (classOf (nextIn text r)) ≡ false → x ≡ deadOf r → Zeroed text s x
       zero-wrong w e = record {
         leads =
-            leads-more zero-leads
+            leads-on zero-leads
             (leads-by text r x act.Die g (act-at r (nextIn text r) Closed act.Die closed (closed-dies (classOf (nextIn text r)) w)) e);
         next = inl (dead (dead-is r x e));
         further = λ f. absurd (false≢true (sym f ∙ dead-is r x e));
@@ -124,24 +128,27 @@ module _ (text : List ℕ) (s r : State) (h : s .place < length text) (p : s .ph
       pub zero-apart : isWhite (classOf (nextIn text r)) ≡ true → x ≡ toOf r Between 0 → Zeroed text s x
       zero-apart w e = record {
         leads =
-            leads-more zero-leads
+            leads-on zero-leads
             (leads-by text r x act.Go g (act-in r (nextIn text r) Closed White closed (white-sort (classOf (nextIn text r)) w)) e);
         next = inr (ap (λ (y : State). y .phase) e);
         further = λ _. omega (arith, zero-place, ap (λ (y : State). y .place) e);
       }
 
 -- what a first digit gives, in its phase or dead
-begun-by : (text : List ℕ) (s r : State) (p : Phase) → isNumber p ≡ true → Leads text s [] r → Or p r → Begun text s r
-begun-by text s r p n a (inl e) = record { leads = a; next = inl (dead e) }
-begun-by text s r p n a (inr e) = record { leads = a; next = inr (ap isNumber e ∙ n) }
+begun-by : (text : List ℕ) (s r : State) (p : Phase) (x : ℕ) → isNumber p ≡ true → Leads text s r → Gives p x r → Begun text s r
+begun-by text s r p x n a g = go (isDead (r .phase)) refl
+  where
+    go : (c : Bool) → isDead (r .phase) ≡ c → Begun text s r
+    go true e = record { leads = a; next = inl (dead e) }
+    go false e = record { leads = a; next = inr (ap isNumber (g e .0) ∙ n) }
 
 -- a literal, at a byte that is neither white space nor a zero
 module _ (text : List ℕ) (s r : State) (h : s .place < length text) (p : s .phase ≡ Between) where
   pub literal-plain : eqb (code (classOf (nextIn text s))) 10 ≡ true → r ≡ moveOf act.Begin s (nextIn text s - 48) → Begun text s r
   literal-plain d q =
-      begun-by text s r Plain refl
+      begun-by text s r Plain (0 * 10 + (nextIn text s - 48)) refl
       (leads-by text s r act.Begin h (act-in s (nextIn text s) Between Digit p (digit-sort (classOf (nextIn text s)) d)) q)
-      (subst⁻¹ (Or Plain) q (begin-or s (nextIn text s - 48)))
+      (subst⁻¹ (Gives Plain (0 * 10 + (nextIn text s - 48))) q (begin-gives s (nextIn text s - 48)))
 
   pub literal-wrong : isWhite (classOf (nextIn text s)) ≡ false → eqb (code (classOf (nextIn text s))) 9 ≡ false
       → eqb (code (classOf (nextIn text s))) 10 ≡ false
@@ -157,7 +164,7 @@ module _ (text : List ℕ) (s r : State) (h : s .place < length text) (p : s .ph
 
   -- its `-`
   module _ (m : eqb (code (classOf (nextIn text s))) 3 ≡ true) (q : r ≡ turnOf s) where
-    minus-leads : Leads text s [] r
+    minus-leads : Leads text s r
     minus-leads = leads-by text s r act.Turn h (act-in s (nextIn text s) Between Minus p (minus-sort (classOf (nextIn text s)) m)) q
 
     pub minus-over : Over text r → Begun text s r
@@ -166,7 +173,7 @@ module _ (text : List ℕ) (s r : State) (h : s .place < length text) (p : s .ph
     -- the byte behind it
     module _ (l : isDead (r .phase) ≡ false) (x : State) (g : r .place < length text) where
       signed : r .phase ≡ Sign
-      signed = or-live Sign r (subst⁻¹ (Or Sign) q (turn-or s)) l
+      signed = subst⁻¹ (Gives Sign 0) q (turn-gives s) l .0
 
       pub minus-wrong : eqb (code (classOf (nextIn text r))) 10 ≡ false → x ≡ deadOf r → Begun text s x
       minus-wrong d e = record {
@@ -178,10 +185,10 @@ module _ (text : List ℕ) (s r : State) (h : s .place < length text) (p : s .ph
 
       pub minus-digit : eqb (code (classOf (nextIn text r))) 10 ≡ true → x ≡ moveOf act.Lead r (nextIn text r - 48) → Begun text s x
       minus-digit d e =
-          begun-by text s x Negated refl
+          begun-by text s x Negated (0 * 10 + (nextIn text r - 48)) refl
           (leads-on minus-leads
           (leads-by text r x act.Lead g (act-in r (nextIn text r) Sign Digit signed (digit-sort (classOf (nextIn text r)) d)) e))
-          (subst⁻¹ (Or Negated) e (lead-or r (nextIn text r - 48)))
+          (subst⁻¹ (Gives Negated (0 * 10 + (nextIn text r - 48))) e (lead-gives r (nextIn text r - 48)))
 
 -- a further digit
 module _ (text : List ℕ) (s r : State) (h : s .place < length text) (n : isNumber (s .phase) ≡ true)
@@ -189,25 +196,25 @@ module _ (text : List ℕ) (s r : State) (h : s .place < length text) (n : isNum
   act-digit : actOf (s .phase) (sortOf (nextIn text s)) ≡ act.Grow
   act-digit = number-grows (s .phase) n (classOf (nextIn text s)) d
 
-  pub digit-leads : Leads text s [] r
+  pub digit-leads : Leads text s r
   digit-leads = leads-by text s r act.Grow h act-digit q
 
   pub digit-place : isDead (r .phase) ≡ false → r .place ≡ s .place + 1
   digit-place l = further-by text s r act.Grow act-digit q l
 
   pub digit-number : isDead (r .phase) ≡ false → isNumber (r .phase) ≡ true
-  digit-number l = ap isNumber (or-live (s .phase) r (subst⁻¹ (Or (s .phase)) q (grow-or s (nextIn text s - 48))) l) ∙ n
+  digit-number l =
+      let d = nextIn text s - 48 in
+      ap isNumber (subst⁻¹ (Gives (s .phase) (s .value * 10 + d)) q (grow-gives s d) l .0) ∙ n
 
 -- the byte behind a literal
 module _ (text : List ℕ) (s r : State) (h : s .place < length text) (n : isNumber (s .phase) ≡ true) where
-  pub end-white : isWhite (classOf (nextIn text s)) ≡ true → r ≡ toOf s Between 0
-      → Leads text s (literalBytes (record { plain = isPlain (s .phase); variable = s .value })) r
+  pub end-white : isWhite (classOf (nextIn text s)) ≡ true → r ≡ toOf s Between 0 → Leads text s r
   end-white w q =
-      subst (λ (xs : List ℕ). Leads text s xs r) (number-bytes (s .phase) n (s .value))
-      (leads-by text s r (actOf (s .phase) White) h (ap (actOf (s .phase)) (white-sort (classOf (nextIn text s)) w))
-      (q ∙ number-ends (s .phase) n s (nextIn text s - 48)))
+      leads-by text s r (actOf (s .phase) White) h (ap (actOf (s .phase)) (white-sort (classOf (nextIn text s)) w))
+      (q ∙ number-ends (s .phase) n s (nextIn text s - 48))
 
-  pub end-wrong : isWhite (classOf (nextIn text s)) ≡ false → isDigit (classOf (nextIn text s)) ≡ false → r ≡ deadOf s → Leads text s [] r
+  pub end-wrong : isWhite (classOf (nextIn text s)) ≡ false → isDigit (classOf (nextIn text s)) ≡ false → r ≡ deadOf s → Leads text s r
   end-wrong w d q = leads-by text s r act.Die h (number-dies (s .phase) n (classOf (nextIn text s)) w d) q
 
 -- a whole literal: its first digit, its further digits, and the byte behind it
@@ -229,7 +236,7 @@ pub spelt-begun : (text : List ℕ) (s r : State) → Begun text s r → isNumbe
 spelt-begun text s r b f = record { leads = b .leads; next = inl (begun-over text s r b f) }
 
 module _ (text : List ℕ) (s m r : State) (b : Begun text s m) (e : Ended text m r) where
-  spelt-leads : Leads text s [] r
+  spelt-leads : Leads text s r
   spelt-leads = leads-on (b .leads) (e .leads)
 
   pub spelt-over : Over text r → Spelt text s r

@@ -16,6 +16,7 @@ use Rattle.clausebytes.specs.Inner.Checks.{roomOf}
 use Rattle.body.specs.Inner.States.{accepts}
 use Rattle.body.specs.declared.state.State.{State}
 use Rattle.dimacs.specs.Texts.{cnf}
+use Rattle.dimacs.specs.Inner.Walks.{stateFrom}
 use Rattle.dimacs.proofs.Laws.ReadCall.{Seen, read-headless, read-refused, read-no-room, read-room, read-accepted}
 use Rattle.dimacs.proofs.read.Statement.{statement}
 use Rattle.dimacs.proofs.read.Tie as tie
@@ -53,87 +54,76 @@ returns c =
 abbrev read-of : tie.After-start → tie.After-read
 read-of c = c .before .before .before
 
-within : (c : tie.After-start) → c .start .result .place ≤ length (text-of (read-of c))
-within c =
-    let r = read-of c in
-    omega (arith, ap (λ (s : State). s .place) (c .start .ensures), ap (λ (h : Head). h .place) (head r), head-within cnf (text-of r))
-
-walk-requires : tie.Need-walk-requires
-walk-requires c κs =
-    let start = c .before .before in
+check-requires : tie.Need-check-requires
+check-requires c κs =
+    let start = c .before in
+    let r = read-of start in
     record {
-      table = classes-of (read-of start) .classes .ensures;
-      place = within start;
+      table = classes-of r .classes .ensures;
+      place = omega (
+        arith,
+        ap (λ (s : State). s .place) (start .start .ensures),
+        ap (λ (h : Head). h .place) (head r),
+        head-within cnf (text-of r),
+      );
       phase = ap (λ (s : State). s .phase) (start .start .ensures);
-      room = omega arith;
     }
 
-abbrev start-in : tie.After-walk → tie.After-start
-start-in c = c .before .before .before
+abbrev start-in : tie.After-check → tie.After-start
+start-in c = c .before .before
 
-abbrev left-of : tie.After-walk → List ℕ
-left-of c = c .walk .last .1 .1 .1 .1 .0
-
-seen : (c : tie.After-walk) → let start = start-in c in let r = read-of start in
-    Seen (text-of r) (buffer-of r) (r .read .result) (start .start .result) (c .walk .result) (left-of c)
+seen : (c : tie.After-check) → let r = read-of (start-in c) in Seen (text-of r) (r .read .result) (c .check .result)
 seen c =
     let start = start-in c in
     let done = start .before .before in
     record {
       head = head (read-of start);
       done = sym (done .is-done .ensures) ∙ not-false (done .is-done .result) (start .before .if1 .left);
-      start = start .start .ensures;
-      walked = c .walk .ensures;
+      read = c .check .ensures ∙ ap (λ (s : State). stateFrom s (text-of (read-of start)) (s .place)) (start .start .ensures);
     }
-
-abbrev walk-of : tie.After-is-accepted → tie.After-walk
-walk-of c = c .before .before .before
 
 returns-2 : tie.Need-returns-2
 returns-2 c =
     let a = c .before in
-    read-refused (seen (walk-of a)) (sym (a .is-accepted .ensures) ∙ not-true (a .is-accepted .result) (c .if2 .taken))
+    read-refused (buffer-of (read-of (start-in (a .before)))) (seen (a .before))
+    (sym (a .is-accepted .ensures) ∙ not-true (a .is-accepted .result) (c .if2 .taken))
 
 -- it is accepted
-accepted : (c : tie.Else2) → accepts (walk-of (c .before) .walk .result) ≡ true
+accepted : (c : tie.Else2) → accepts (c .before .before .check .result) ≡ true
 accepted c = sym (c .before .is-accepted .ensures) ∙ not-false (c .before .is-accepted .result) (c .if2 .left)
 
 returns-3 : tie.Need-returns-3
 returns-3 c =
     let room = c .before in
-    let walk = walk-of (room .before .before) in
-    read-no-room (seen walk) (accepted (room .before)) (omega (arith, room .room .ensures, c .if3 .taken))
+    let else = room .before in
+    let check = else .before .before in
+    read-no-room (buffer-of (read-of (start-in check))) (seen check) (accepted else) (omega (arith, room .room .ensures, c .if3 .taken))
 
 -- there is room: the second reading
-room : (c : tie.Else3) → let walk = walk-of (c .before .before .before) in
-    roomOf (read-of (start-in walk) .read .result .value) (walk .walk .result .literals) ≤ length (left-of walk)
+abbrev check-of : tie.Else3 → tie.After-check
+check-of c = c .before .before .before .before
+
+abbrev read-in : tie.Else3 → tie.After-read
+read-in c = read-of (start-in (check-of c))
+
+room : (c : tie.Else3) → roomOf (read-in c .read .result .value) (check-of c .check .result .literals) ≤ length (buffer-of (read-in c))
 room c = omega (arith, c .before .room .ensures, c .if3 .left)
 
-slice-aggregate-walk-2 : tie.Need-slice-aggregate-walk-2
-slice-aggregate-walk-2 c =
-    let else = c .before .before .before in
-    let start = start-in (walk-of (else .before)) in
-    sym (ap length (classes-of (read-of start) .classes .ensures) ∙ length-table)
-
-walk-requires-2 : tie.Need-walk-requires-2
-walk-requires-2 c κs =
+copy-requires : tie.Need-copy-requires
+copy-requires c κs =
     let fits = c .before .before in
-    let else = fits .before .before in
-    let walk = walk-of (else .before) in
-    let start = start-in walk in
+    let check = check-of fits in
     record {
-      table = classes-of (read-of start) .classes .ensures;
-      place = within start;
-      phase = ap (λ (s : State). s .phase) (start .start .ensures);
-      room = read-room (seen walk) (accepted else) (room fits);
+      table = classes-of (read-in fits) .classes .ensures;
+      accepted = ap accepts (sym (seen check .read)) ∙ accepted (fits .before .before);
+      room = read-room (buffer-of (read-in fits)) (seen check) (accepted (fits .before .before)) (room fits);
     }
 
 returns-4 : tie.Need-returns-4
 returns-4 c =
-    let walk2 = c .before .before in
-    let fits = walk2 .before .before .before in
-    let else = fits .before .before in
-    read-accepted (seen (walk-of (else .before))) (accepted else) (room fits) (walk2 .walk2 .ensures)
+    let copy = c .before .before in
+    let fits = copy .before .before .before in
+    read-accepted (buffer-of (read-in fits)) (seen (check-of fits)) (accepted (fits .before .before)) (room fits) (copy .copy .ensures)
 
 pub read-spec : {M : Type 1} → statement M
 read-spec =
@@ -147,14 +137,12 @@ read-spec =
     returns
     (λ c κs. search needs)
     (λ c. search needs)
-    walk-requires
+    check-requires
     (λ c κs. search needs)
-    (λ c. search needs)
     returns-2
     (λ c κs. search needs)
-    (λ c. search needs)
     returns-3
-    slice-aggregate-walk-2
-    walk-requires-2
+    (λ c. sym (ap length (classes-of (read-in (c .before)) .classes .ensures) ∙ length-table))
+    copy-requires
     (λ c. search needs)
     returns-4)

@@ -1,14 +1,13 @@
--- What stands behind the header, from a place on: where it leads the reader, the clause bytes put out on the way, and what a reading
--- of it asks and gives.
+-- What stands behind the header, from a place on: where it leads the reader, the clause bytes put out on the way, and what reading its
+-- parts asks and gives.
 -- Assumes nothing: these are definitions.
 use mathlib.Core.Path.{_≡_}
-use mathlib.Core.Bool.{Bool, true, false, cond}
-use mathlib.Core.List.{List, [], _++_}
+use mathlib.Core.Bool.{true, false}
+use mathlib.Core.List.{List, []}
 use mathlib.Core.Logic.{_⊎_}
 use Prim.Native.Nat.{ℕ, _≤_, _<_}
 use lib.Dec.{eqb}
 use lib.ListN.{length, getD, drop}
-use Rattle.laws.specs.Lists.{splice}
 use Rattle.laws.specs.Numbers.{little}
 use Rattle.laws.specs.Automata.{run, output}
 use Rattle.classes.specs.Classes.{classOf, code, isWhite, isDigit, table}
@@ -36,18 +35,13 @@ stateFrom start text from = run stepOf start (drop from text)
 abbrev pub bytesFrom : State → List ℕ → ℕ → List ℕ
 bytesFrom start text from = output stepOf putsOf start (drop from text)
 
--- bytes that are written: none by a reading that does not write
-abbrev pub written : Bool → List ℕ → List ℕ
-written writes xs = cond writes xs []
-
 -- the byte that is read next
 abbrev pub nextIn : List ℕ → State → ℕ
 nextIn text s = getD text (s .place) 0
 
--- a text leads from one state to another, and these bytes are put out on the way
-pub record Leads (text : List ℕ) (s : State) (puts : List ℕ) (r : State) : Type 0 where
+-- a text leads from one state to another
+pub record Leads (text : List ℕ) (s r : State) : Type 0 where
   pub state : stateFrom s text (s .place) ≡ stateFrom r text (r .place)
-  pub bytes : bytesFrom s text (s .place) ≡ puts ++ bytesFrom r text (r .place)
   pub onward : s .place ≤ r .place
   pub within : r .place ≤ length text
 
@@ -64,7 +58,7 @@ pub record AtZero (classes text : List ℕ) (s : State) : Type 0 where
   pub zero : eqb (code (classOf (nextIn text s))) 9 ≡ true
 
 pub record Zeroed (text : List ℕ) (s r : State) : Type 0 where
-  pub leads : Leads text s (little 4 0) r
+  pub leads : Leads text s r
   pub next : Over text r ⊎ (r .phase ≡ Between)
   pub further : isDead (r .phase) ≡ false → s .place < r .place
 
@@ -77,7 +71,7 @@ pub record AtLiteral (classes text : List ℕ) (s : State) : Type 0 where
   pub some : eqb (code (classOf (nextIn text s))) 9 ≡ false
 
 pub record Begun (text : List ℕ) (s r : State) : Type 0 where
-  pub leads : Leads text s [] r
+  pub leads : Leads text s r
   pub next : Over text r ⊎ (isNumber (r .phase) ≡ true)
 
 -- what reading the further digits asks, and gives: no accepted text begins so, or what comes next is no digit
@@ -87,23 +81,17 @@ pub record InDigits (classes text : List ℕ) (s : State) : Type 0 where
   pub number : isNumber (s .phase) ≡ true
 
 pub record Ended (text : List ℕ) (s r : State) : Type 0 where
-  pub leads : Leads text s [] r
+  pub leads : Leads text s r
   pub next : (isDead (r .phase) ≡ true) ⊎ (isNumber (r .phase) ≡ true)
   pub stops : isDead (r .phase) ≡ false → r .place < length text → isDigit (classOf (nextIn text r)) ≡ false
 
 -- what reading a literal gives: the reading is over, or white space comes next
 pub record Spelt (text : List ℕ) (s r : State) : Type 0 where
-  pub leads : Leads text s [] r
+  pub leads : Leads text s r
   pub next : Over text r ⊎ ((isNumber (r .phase) ≡ true) × (isWhite (classOf (nextIn text r)) ≡ true))
 
--- what a reading asks: a text from the state's place on, between literals, and room
-pub record Walking (classes text : List ℕ) (start : State) (writes : Bool) (out : List ℕ) : Type 0 where
+-- what a reading asks: a text from the state's place on, between literals
+pub record Walking (classes text : List ℕ) (start : State) : Type 0 where
   pub table : classes ≡ table
   pub place : start .place ≤ length text
   pub phase : start .phase ≡ Between
-  pub room : length (written writes (bytesFrom start text (start .place))) ≤ length out
-
--- what it gives: the state after the text, and the bytes in front of the buffer
-pub record Walked (text : List ℕ) (start : State) (writes : Bool) (before : List ℕ) (end : State) (after : List ℕ) : Type 0 where
-  pub state : end ≡ stateFrom start text (start .place)
-  pub bytes : after ≡ splice before 0 (written writes (bytesFrom start text (start .place)))

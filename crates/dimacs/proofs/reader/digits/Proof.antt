@@ -2,7 +2,6 @@
 -- Assumes nothing.
 use mathlib.Core.Path.{_≡_, sym, _∙_}
 use mathlib.Core.Bool.{true, false, false≢true}
-use mathlib.Core.List.{[]}
 use mathlib.Core.Logic.{inl, inr}
 use Prim.Native.Nat.{_-_}
 use native.Mathlib.Omega.{arith}
@@ -19,7 +18,7 @@ use Rattle.dimacs.proofs.reader.digits.Statement.{statement}
 use Rattle.dimacs.proofs.reader.digits.Tie as tie
 
 abbrev Inv-loop : tie.InvT-loop
-Inv-loop classes text state₀ state = Leads text state₀ [] state × (isNumber (state .phase) ≡ true)
+Inv-loop classes text state₀ state = Leads text state₀ state × (isNumber (state .phase) ≡ true)
 
 abbrev μ-loop : tie.MeasureT-loop
 μ-loop classes text state₀ state = length text - state .place
@@ -58,7 +57,7 @@ grow-requires c κs =
     }
 
 grown : (c : tie.After-grow Inv-loop μ-loop) → let at = at-of (c .before .before) in let s = start-of at in
-    Leads (s .args .text .now) (s .args .start) [] (c .grow .result)
+    Leads (s .args .text .now) (s .args .start) (c .grow .result)
 grown c =
     let else = c .before in
     let at = at-of (else .before) in

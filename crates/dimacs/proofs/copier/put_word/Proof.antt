@@ -1,4 +1,4 @@
--- `dimacs::reader::put_word` meets its contract: four bytes are written, or none. Assumes nothing.
+-- `dimacs::copier::put_word` meets its contract: four bytes are written, or none. Assumes nothing.
 use mathlib.Core.Path.{refl, ap, subst}
 use mathlib.Core.Bool.{Bool}
 use Prim.Native.Nat.{_+_, _≤_}
@@ -6,9 +6,9 @@ use borrow.Author.Needs.{needs}
 use lib.ListN.{length}
 use Rattle.laws.specs.Numbers.{little}
 use Rattle.laws.proofs.Stored.{stored-nothing, stored-as}
-use Rattle.dimacs.specs.Inner.Walks.{written}
-use Rattle.dimacs.proofs.reader.put_word.Statement.{statement}
-use Rattle.dimacs.proofs.reader.put_word.Tie as tie
+use Rattle.dimacs.specs.Inner.Copies.{written}
+use Rattle.dimacs.proofs.copier.put_word.Statement.{statement}
+use Rattle.dimacs.proofs.copier.put_word.Tie as tie
 
 put-requires : tie.Need-put-requires
 put-requires c κs =
