@@ -6,72 +6,15 @@
 //! of each literal.
 
 mod library;
+mod texts;
 mod timing;
 
-use reference::{dimacs_reader, dimacs_writer};
 use std::time::Duration;
+use texts::{
+    clause_bytes, commented, read_by_reference, spaced, write_by_reference, CLAUSES, LITERALS,
+    VARIABLES,
+};
 use timing::{keep, micros, rate, ratio, ROUNDS};
-
-const VARIABLES: u32 = dimacs_writer::MOST_VARIABLES;
-const CLAUSES: u32 = dimacs_writer::MOST_CLAUSES;
-const LITERALS: u32 = dimacs_writer::MOST_LITERALS;
-
-fn write_by_reference(clauses: &[u8]) -> Vec<u8> {
-    let (text, _) =
-        dimacs_writer::text(clauses, VARIABLES, usize::MAX).expect("the clause bytes are right");
-    text
-}
-
-fn read_by_reference(text: &[u8]) -> Vec<u8> {
-    let (clauses, _) = dimacs_reader::clause_bytes(text, usize::MAX).expect("the text is right");
-    clauses
-}
-
-/// Clause bytes of mixed literals, as many in each clause as in another, or one more.
-fn clause_bytes() -> Vec<u8> {
-    let mut bytes = vec![];
-    let (mut state, mut made) = (1_u64, 0);
-    for clause in 1..=u64::from(CLAUSES) {
-        while made < clause * u64::from(LITERALS) / u64::from(CLAUSES) {
-            state = state
-                .wrapping_mul(6_364_136_223_846_793_005)
-                .wrapping_add(1);
-            let variable = ((state >> 33) % u64::from(VARIABLES)) as i32 + 1;
-            let literal = if state >> 63 == 0 {
-                variable
-            } else {
-                -variable
-            };
-            bytes.extend(literal.to_le_bytes());
-            made += 1;
-        }
-        bytes.extend(0_i32.to_le_bytes());
-    }
-    assert_eq!(bytes.len(), 4 * (CLAUSES + LITERALS) as usize);
-    bytes
-}
-
-/// The text after 400,000 comment lines of 80 bytes each.
-fn commented(text: &[u8]) -> Vec<u8> {
-    let line = [b"c ".as_slice(), &[b'x'; 77], b"\n"].concat();
-    [line.repeat(400_000).as_slice(), text].concat()
-}
-
-/// The text with 24 bytes of white space for each space or newline after the header.
-fn spaced(text: &[u8]) -> Vec<u8> {
-    let header = text
-        .iter()
-        .position(|&byte| byte == b'\n')
-        .map_or(0, |at| at + 1);
-    let mut longer = text[..header].to_vec();
-    for &byte in &text[header..] {
-        match byte {
-            b' ' | b'\n' => longer.extend(b"     \t  \t     \r\n        "),
-            byte => longer.push(byte),
-        }
-    }
-    longer
-}
 
 fn show(name: &str, bytes: usize, [library, reference]: [Duration; 2]) {
     println!(
@@ -97,14 +40,14 @@ fn main() {
         ""
     );
     let clauses = clause_bytes();
-    let plain = write_by_reference(&clauses);
+    let plain = write_by_reference(&clauses, VARIABLES);
 
     let mut text = vec![0; plain.len()];
     library::write_dimacs(&clauses, VARIABLES, &mut text);
     assert!(text == plain, "both write the same text");
     let times = timing::best([
         &mut || keep(library::write_dimacs(&clauses, VARIABLES, &mut text)),
-        &mut || keep(write_by_reference(&clauses)),
+        &mut || keep(write_by_reference(&clauses, VARIABLES)),
     ]);
     show("written", plain.len(), times);
 

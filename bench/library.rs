@@ -103,7 +103,7 @@ mod entry {
 }
 
 /// Makes a call that must be accepted. Gives the two values of its answer part.
-fn accepted(call: impl FnOnce(*mut u8, usize) -> u32) -> [u32; 2] {
+pub fn accepted(call: impl FnOnce(*mut u8, usize) -> u32) -> [u32; 2] {
     let mut answer = [0; 16];
     let result = call(answer.as_mut_ptr(), answer.len());
     assert_eq!(result, 0, "what is timed is accepted");

@@ -5,19 +5,17 @@
 //! of its steps reads the table and the set again, as each entry does. Its writer allocates what it gives.
 
 mod library;
+mod pass;
 mod tables;
 mod timing;
 
+use pass::{library_pass, room, Buffers, Passed};
 use reference::fast_choose::fast_choose;
 use reference::table::{self, Node};
 use reference::{dimacs_writer, per_clause, set};
 use std::time::Duration;
-use tables::{Guard, ALLOWANCE, MOST_BYTES, MOST_NODES};
+use tables::{Guard, ALLOWANCE};
 use timing::{keep, micros, ratio, ROUNDS};
-
-/// The longest text of a number, with the space or newline after it.
-const LONGEST_WORD: usize = "-40000 ".len();
-const LONGEST_HEADER: usize = "p cnf 40000 65534\n".len();
 
 fn nodes(guard: &Guard) -> Vec<Node> {
     table::check(&guard.table, guard.options).expect("the table is right")
@@ -49,51 +47,6 @@ fn reference_convert(guard: &Guard, set: &[u8], clauses: &mut [u8]) -> [u32; 2] 
 fn reference_write(clauses: &[u8], variables: u32) -> Vec<u8> {
     let written = dimacs_writer::text(clauses, variables, usize::MAX);
     written.expect("the clauses are right").0
-}
-
-/// Buffers in which guard after guard is converted.
-struct Buffers {
-    set: Vec<u8>,
-    clauses: Vec<u8>,
-    text: Vec<u8>,
-}
-
-impl Buffers {
-    fn new() -> Buffers {
-        Buffers {
-            set: vec![0; MOST_NODES],
-            clauses: vec![0; MOST_BYTES],
-            text: vec![0; MOST_BYTES / 4 * LONGEST_WORD + LONGEST_HEADER],
-        }
-    }
-}
-
-/// What a pass over a guard leaves in its buffers: so many bytes of a set and of clauses, over so many variables.
-struct Passed {
-    nodes: usize,
-    bytes: usize,
-    variables: u32,
-}
-
-/// The bytes of clauses with these totals.
-fn room(totals: [u32; 2]) -> usize {
-    4 * (totals[0] + totals[1]) as usize
-}
-
-fn library_pass(guard: &Guard, buffers: &mut Buffers) -> Passed {
-    let (table, options) = (&guard.table, guard.options);
-    library::check(table, options);
-    let set = &mut buffers.set[..table.len() / 5];
-    library::choose(table, options, ALLOWANCE, set);
-    let bytes = room(library::measure(table, options, set));
-    let clauses = &mut buffers.clauses[..bytes];
-    let [variables, _] = library::convert(table, options, set, clauses);
-    library::write_dimacs(clauses, variables, &mut buffers.text);
-    Passed {
-        nodes: set.len(),
-        bytes,
-        variables,
-    }
 }
 
 fn reference_pass(guard: &Guard, buffers: &mut Buffers) -> Passed {

@@ -120,10 +120,10 @@
  * The version of this header, and of the library that is installed with it. CHANGELOG.md says what may change in which
  * version.
  */
-#define SIMBOLUFA_VERSION "2.1.0"
+#define SIMBOLUFA_VERSION "2.1.1"
 #define SIMBOLUFA_VERSION_MAJOR 2
 #define SIMBOLUFA_VERSION_MINOR 1
-#define SIMBOLUFA_VERSION_PATCH 0
+#define SIMBOLUFA_VERSION_PATCH 1
 
 #ifdef __cplusplus
 extern "C" {

@@ -3,8 +3,8 @@
 use mathlib.Core.Path.{_≡_, refl}
 use mathlib.Core.List.{List, [], _∷_}
 use Prim.Native.Nat.{ℕ}
-use Rattle.classes.specs.Classes.{Class, classOf}
-use Rattle.classes.specs.Classes.{Blank, Return, Newline, Minus, LetterC, LetterF, LetterN, LetterP, Rest, Nought, Digit}
+use Rattle.classes.specs.Inner.Classes.{Class, classOf}
+use Rattle.classes.specs.Inner.Classes.{Blank, Return, Newline, Minus, LetterC, LetterF, LetterN, LetterP, Rest, Nought, Digit}
 
 classes : List ℕ → List Class
 classes [] = []

@@ -1,2 +1,2 @@
 -- The classes of bytes.
-pub mod Classes
+pub mod Inner

@@ -3,7 +3,7 @@ mod table;
 
 ghost use mathlib.Core.Path.{_≡_};
 ghost use lib.Dec.{eqb};
-ghost use Rattle.classes.specs.Classes.{classOf, code, isWhite, isDigit, table, Spelt};
+ghost use Rattle.classes.specs.Inner.Classes.{classOf, code, isWhite, isDigit, table, Spelt};
 pub use table::BLANK;
 use table::CLASSES;
 pub use table::DIGIT;

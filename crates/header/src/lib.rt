@@ -3,7 +3,7 @@ ghost use mathlib.Core.Path.{_≡_};
 ghost use Prim.Native.Nat.{_<_};
 ghost use lib.Dec.{eqb};
 ghost use Rattle.text.specs.Inner.Numbers.{isDigit};
-ghost use Rattle.classes.specs.Classes.{table};
+ghost use Rattle.classes.specs.Inner.Classes.{table};
 ghost use Rattle.header.specs.Inner.Heads.{lastPlace, isBlank, isDone, isOver, isCommentAt, isComment, startOf, toOf, deadOf, goOf};
 ghost use Rattle.header.specs.Inner.Heads.{takenOf, mostOf, lineOf, commentOf, beforeWordOf, beforeNumberOf, spaceOf, numberIn};
 ghost use Rattle.header.specs.Inner.Heads.{afterOf, stepAt, stepOf, headOf, Ready, ReadyFor, ReadyIn, Readable};

@@ -2,8 +2,8 @@
 -- Assumes nothing: these are definitions.
 use mathlib.Core.Bool.{Bool, true, false}
 use Prim.Native.Nat.{ℕ}
-use Rattle.classes.specs.Classes as class
-use Rattle.classes.specs.Classes.{Class, classOf}
+use Rattle.classes.specs.Inner.Classes as class
+use Rattle.classes.specs.Inner.Classes.{Class, classOf}
 use Rattle.body.specs.declared.phase.Phase.{Phase}
 use Rattle.body.specs.declared.phase.Phase.the-variants.{Between, Closed, Sign, Plain, Negated, Dead}
 

@@ -3,7 +3,7 @@ use mathlib.Core.Path.{ap, _∙_}
 use Prim.Native.Nat.{ℕ}
 use borrow.Author.Needs.{needs}
 use lib.Dec.{ltb}
-use Rattle.classes.specs.Classes.{classOf}
+use Rattle.classes.specs.Inner.Classes.{classOf}
 use Rattle.classes.proofs.Laws.Classes.{white-below}
 use Rattle.classes.proofs.is_white.Statement.{statement}
 use Rattle.classes.proofs.is_white.Tie as tie

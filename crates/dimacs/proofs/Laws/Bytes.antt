@@ -5,8 +5,8 @@ use mathlib.Core.Bool.{Bool, true, false, false≢true}
 use Prim.Native.Nat.{ℕ, _-_, _≤_}
 use native.Mathlib.Omega.{arith}
 use lib.Dec.{eqb}
-use Rattle.classes.specs.Classes as class
-use Rattle.classes.specs.Classes.{Class, classOf, code, isWhite, isDigit}
+use Rattle.classes.specs.Inner.Classes as class
+use Rattle.classes.specs.Inner.Classes.{Class, classOf, code, isWhite, isDigit}
 use Rattle.body.specs.Inner.Table.{Sort, Nought, Digit, Minus, White, sortIn, sortOf, Act, Die, Grow, row, actOf, isNumber}
 use Rattle.body.specs.Inner.States.{toOf, moveOf}
 use Rattle.body.specs.declared.phase.Phase.{Phase}

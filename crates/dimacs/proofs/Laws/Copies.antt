@@ -20,7 +20,7 @@ use Rattle.text.specs.Inner.Numbers.{grownOf}
 use Rattle.text.specs.declared.number.Number.{Number}
 use Rattle.text.specs.declared.number.Number.the-variants.{Wrong, Is}
 use Rattle.header.specs.Heads.{space, tab}
-use Rattle.classes.specs.Classes.{classOf, isWhite, isDigit}
+use Rattle.classes.specs.Inner.Classes.{classOf, isWhite, isDigit}
 use Rattle.clausebytes.specs.Words.{mostLiterals}
 use Rattle.body.specs.Inner.Table.{Act, Die, Go, Close, Begin, Turn, Lead, Grow, EndPlain, EndNegated, sortOf, actOf, tokenOf, endsIn, isDead}
 use Rattle.body.specs.Inner.States.{startOf, accepts, deadOf, takenOf, openOf, begunOf, moveOf, stepOf}

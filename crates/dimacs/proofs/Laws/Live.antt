@@ -8,8 +8,8 @@ use native.Mathlib.Omega.{arith}
 use lib.Dec.{eqb, ltb}
 use borrow.Author.Tests.{eqb-true, eqb-false, ltb-true, ltb-false, ne-eqb, lt-ltb, le-ltb}
 use Rattle.header.specs.Heads.{space, tab}
-use Rattle.classes.specs.Classes as class
-use Rattle.classes.specs.Classes.{Class, lowOf, highOf, classOf}
+use Rattle.classes.specs.Inner.Classes as class
+use Rattle.classes.specs.Inner.Classes.{Class, lowOf, highOf, classOf}
 use Rattle.body.specs.Inner.Table.{Sort, Nought, Digit, Minus, White, Other, sortIn, sortOf, actOf}
 use Rattle.body.specs.Inner.Table.{Act, Die, Go, Close, Begin, Turn, Lead, Grow, EndPlain, EndNegated}
 use Rattle.body.specs.declared.phase.Phase.{Phase}

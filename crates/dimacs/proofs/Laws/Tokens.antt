@@ -11,7 +11,7 @@ use lib.ListN.{length}
 use Rattle.text.specs.Inner.Numbers.{grownOf}
 use Rattle.text.specs.declared.number.Number.{Number}
 use Rattle.text.specs.declared.number.Number.the-variants.{Wrong, Is}
-use Rattle.classes.specs.Classes.{classOf, code, isWhite, isDigit}
+use Rattle.classes.specs.Inner.Classes.{classOf, code, isWhite, isDigit}
 use Rattle.clausebytes.specs.Words.{mostLiterals}
 use Rattle.body.specs.Inner.Table.{Sort, Nought, Digit, Minus, White, Act, sortOf, actOf, isDead, isNumber}
 use Rattle.body.specs.Inner.Table as act

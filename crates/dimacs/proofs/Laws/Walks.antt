@@ -8,7 +8,7 @@ use Prim.Native.Nat.{_≤_, _<_}
 use native.Mathlib.Omega.{arith}
 use Prim.Native.Nat.{ℕ}
 use lib.ListN.{length}
-use Rattle.classes.specs.Classes.{classOf, isWhite}
+use Rattle.classes.specs.Inner.Classes.{classOf, isWhite}
 use Rattle.body.specs.Inner.Table.{isDead, isNumber}
 use Rattle.body.specs.declared.phase.Phase.the-variants.{Between}
 use Rattle.body.specs.declared.state.State.{State}

@@ -5,7 +5,7 @@ use mathlib.Core.Bool.{Bool, true, false, cond, not, _&&_}
 use mathlib.Core.List.{List, []}
 use Prim.Native.Nat.{ℕ, _+_, _*_, _-_, _^_, _≤_, _<_}
 use lib.ListN.{length}
-use Rattle.classes.specs.Classes.{classOf, isWhite, isDigit, table}
+use Rattle.classes.specs.Inner.Classes.{classOf, isWhite, isDigit, table}
 use Rattle.clausal.specs.Clauses.{literalBytes}
 use Rattle.body.specs.Inner.States.{accepts}
 use Rattle.body.specs.declared.state.State.{State}

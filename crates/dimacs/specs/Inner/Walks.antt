@@ -10,7 +10,7 @@ use lib.Dec.{eqb}
 use lib.ListN.{length, getD, drop}
 use Rattle.laws.specs.Numbers.{little}
 use Rattle.laws.specs.Automata.{run, output}
-use Rattle.classes.specs.Classes.{classOf, code, isWhite, isDigit, table}
+use Rattle.classes.specs.Inner.Classes.{classOf, code, isWhite, isDigit, table}
 use Rattle.clausal.specs.Clauses.{literalBytes}
 use Rattle.body.specs.Inner.Table.{sortOf, actOf, tokenOf, isDead, isNumber, Token, Nothing, Zero, Positive, Negative}
 use Rattle.body.specs.Inner.States.{stepOf}

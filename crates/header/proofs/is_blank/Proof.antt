@@ -4,7 +4,7 @@ use mathlib.Core.Path.{refl, _∙_}
 use borrow.Author.Needs.{needs}
 use lib.Dec.{eqb}
 use Rattle.laws.specs.Lists.{firstFrom}
-use Rattle.classes.specs.Classes.{classOf, code}
+use Rattle.classes.specs.Inner.Classes.{classOf, code}
 use Rattle.classes.proofs.Laws.Classes.{agreed}
 use Rattle.header.specs.Inner.Heads.{isBlank}
 use Rattle.header.proofs.is_blank.Statement.{statement}

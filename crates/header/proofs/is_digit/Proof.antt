@@ -4,7 +4,7 @@ use mathlib.Core.Path.{refl, _∙_}
 use borrow.Author.Needs.{needs}
 use Rattle.laws.specs.Lists.{firstFrom}
 use Rattle.text.specs.Inner.Numbers.{isDigit}
-use Rattle.classes.specs.Classes as classes
+use Rattle.classes.specs.Inner.Classes as classes
 use Rattle.classes.proofs.Laws.Classes.{agreed}
 use Rattle.header.proofs.is_digit.Statement.{statement}
 use Rattle.header.proofs.is_digit.Tie as tie

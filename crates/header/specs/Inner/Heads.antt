@@ -10,7 +10,7 @@ use Rattle.laws.specs.Automata.{run}
 use Rattle.text.specs.Inner.Numbers.{isDigit, grownOf}
 use Rattle.text.specs.declared.number.Number as number
 use Rattle.text.specs.declared.number.Number.the-variants.{Wrong, Is}
-use Rattle.classes.specs.Classes.{classOf, isLetter, table}
+use Rattle.classes.specs.Inner.Classes.{classOf, isLetter, table}
 use Rattle.header.specs.declared.Form.{Form}
 use Rattle.header.specs.declared.Head.{Head}
 use Rattle.header.specs.declared.Phase.{Phase}

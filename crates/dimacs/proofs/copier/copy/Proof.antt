@@ -10,7 +10,7 @@ use lib.ListN.{length, getD}
 use Rattle.laws.specs.Inner.Stores.{Stored}
 use Rattle.laws.specs.Numbers.{little}
 use Rattle.laws.proofs.Stored.{stored-as, stored-length}
-use Rattle.classes.specs.Classes.{classOf, isWhite, isDigit}
+use Rattle.classes.specs.Inner.Classes.{classOf, isWhite, isDigit}
 use Rattle.body.specs.Inner.States.{startOf}
 use Rattle.body.specs.declared.state.State.{State}
 use Rattle.dimacs.specs.Inner.Copies.{penBytes, penOf, endsWord, written}

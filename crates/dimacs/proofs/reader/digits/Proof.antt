@@ -8,7 +8,7 @@ use native.Mathlib.Omega.{arith}
 use borrow.Author.Needs.{needs}
 use borrow.Author.Tests.{not-true, not-false}
 use lib.ListN.{length}
-use Rattle.classes.specs.Classes.{classOf, isDigit}
+use Rattle.classes.specs.Inner.Classes.{classOf, isDigit}
 use Rattle.body.specs.Inner.Table.{isDead, isNumber}
 use Rattle.dimacs.specs.Inner.Walks.{nextIn, Leads}
 use Rattle.dimacs.proofs.Laws.Bytes.{digit-least}

@@ -6,7 +6,7 @@ use native.Mathlib.Omega.{arith}
 use borrow.Author.Needs.{needs}
 use borrow.Author.Tests.{not-true, not-false}
 use lib.Dec.{eqb}
-use Rattle.classes.specs.Classes.{classOf, code}
+use Rattle.classes.specs.Inner.Classes.{classOf, code}
 use Rattle.body.specs.Inner.Table.{isDead}
 use Rattle.dimacs.specs.Inner.Walks.{nextIn, dead, end}
 use Rattle.dimacs.proofs.Laws.Bytes.{digit-is, digit-least}
