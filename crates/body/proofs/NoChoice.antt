@@ -5,91 +5,91 @@ use mathlib.Core.Path.{_≡_, sym, _∙_}
 use contract.Lifetimes.{Lfts}
 use denote.Triple.Clauses.{AtExit}
 use borrow.Fn.Kinds.{Dens, endedOf, resT}
-use Rattle.body.proofs.state.State.start.Kinds as state-state-start-kinds
-use Rattle.body.proofs.state.State.start.Reads as state-state-start
-use Rattle.body.proofs.state.State.is_accepted.Kinds as state-state-is-accepted-kinds
-use Rattle.body.proofs.state.State.is_accepted.Reads as state-state-is-accepted
-use Rattle.body.proofs.state.State.is_dead.Kinds as state-state-is-dead-kinds
-use Rattle.body.proofs.state.State.is_dead.Reads as state-state-is-dead
-use Rattle.body.proofs.state.State.is_number.Kinds as state-state-is-number-kinds
-use Rattle.body.proofs.state.State.is_number.Reads as state-state-is-number
-use Rattle.body.proofs.state.State.dead.Kinds as state-state-dead-kinds
-use Rattle.body.proofs.state.State.dead.Reads as state-state-dead
-use Rattle.body.proofs.state.State.pass.Kinds as state-state-pass-kinds
-use Rattle.body.proofs.state.State.pass.Reads as state-state-pass
-use Rattle.body.proofs.state.State.close.Kinds as state-state-close-kinds
-use Rattle.body.proofs.state.State.close.Reads as state-state-close
-use Rattle.body.proofs.state.State.begin.Kinds as state-state-begin-kinds
-use Rattle.body.proofs.state.State.begin.Reads as state-state-begin
-use Rattle.body.proofs.state.State.turn.Kinds as state-state-turn-kinds
-use Rattle.body.proofs.state.State.turn.Reads as state-state-turn
-use Rattle.body.proofs.state.State.lead.Kinds as state-state-lead-kinds
-use Rattle.body.proofs.state.State.lead.Reads as state-state-lead
-use Rattle.body.proofs.state.State.grow.Kinds as state-state-grow-kinds
-use Rattle.body.proofs.state.State.grow.Reads as state-state-grow
+use Rattle.body.proofs.state.State.start.Kinds as start-kinds
+use Rattle.body.proofs.state.State.start.Reads as start
+use Rattle.body.proofs.state.State.is_accepted.Kinds as is-accepted-kinds
+use Rattle.body.proofs.state.State.is_accepted.Reads as is-accepted
+use Rattle.body.proofs.state.State.is_dead.Kinds as is-dead-kinds
+use Rattle.body.proofs.state.State.is_dead.Reads as is-dead
+use Rattle.body.proofs.state.State.is_number.Kinds as is-number-kinds
+use Rattle.body.proofs.state.State.is_number.Reads as is-number
+use Rattle.body.proofs.state.State.dead.Kinds as dead-kinds
+use Rattle.body.proofs.state.State.dead.Reads as dead
+use Rattle.body.proofs.state.State.pass.Kinds as pass-kinds
+use Rattle.body.proofs.state.State.pass.Reads as pass
+use Rattle.body.proofs.state.State.close.Kinds as close-kinds
+use Rattle.body.proofs.state.State.close.Reads as close
+use Rattle.body.proofs.state.State.begin.Kinds as begin-kinds
+use Rattle.body.proofs.state.State.begin.Reads as begin
+use Rattle.body.proofs.state.State.turn.Kinds as turn-kinds
+use Rattle.body.proofs.state.State.turn.Reads as turn
+use Rattle.body.proofs.state.State.lead.Kinds as lead-kinds
+use Rattle.body.proofs.state.State.lead.Reads as lead
+use Rattle.body.proofs.state.State.grow.Kinds as grow-kinds
+use Rattle.body.proofs.state.State.grow.Reads as grow
 
-pub state-state-start-settled : (κs : Lfts 0) (a : Dens κs state-state-start-kinds.ps) (r q : resT state-state-start-kinds.r κs .Denot)
-    (s t : AtExit (endedOf 0 state-state-start-kinds.ps state-state-start-kinds.r) κs) → state-state-start.Post κs a r s
-    → state-state-start.Post κs a q t
+pub start-settled : (κs : Lfts 0) (a : Dens κs start-kinds.ps) (r q : resT start-kinds.r κs .Denot)
+    (s t : AtExit (endedOf 0 start-kinds.ps start-kinds.r) κs) → start.Post κs a r s
+    → start.Post κs a q t
     → r ≡ q
-state-state-start-settled κs a r q s t e f = e ∙ sym f
+start-settled κs a r q s t e f = e ∙ sym f
 
-pub state-state-is-accepted-settled : (κs : Lfts 0) (a : Dens κs state-state-is-accepted-kinds.ps) (r q : resT state-state-is-accepted-kinds.r κs .Denot)
-    (s t : AtExit (endedOf 0 state-state-is-accepted-kinds.ps state-state-is-accepted-kinds.r) κs) → state-state-is-accepted.Post κs a r s
-    → state-state-is-accepted.Post κs a q t
+pub is-accepted-settled : (κs : Lfts 0) (a : Dens κs is-accepted-kinds.ps) (r q : resT is-accepted-kinds.r κs .Denot)
+    (s t : AtExit (endedOf 0 is-accepted-kinds.ps is-accepted-kinds.r) κs) → is-accepted.Post κs a r s
+    → is-accepted.Post κs a q t
     → r ≡ q
-state-state-is-accepted-settled κs a r q s t e f = e ∙ sym f
+is-accepted-settled κs a r q s t e f = e ∙ sym f
 
-pub state-state-is-dead-settled : (κs : Lfts 0) (a : Dens κs state-state-is-dead-kinds.ps) (r q : resT state-state-is-dead-kinds.r κs .Denot)
-    (s t : AtExit (endedOf 0 state-state-is-dead-kinds.ps state-state-is-dead-kinds.r) κs) → state-state-is-dead.Post κs a r s
-    → state-state-is-dead.Post κs a q t
+pub is-dead-settled : (κs : Lfts 0) (a : Dens κs is-dead-kinds.ps) (r q : resT is-dead-kinds.r κs .Denot)
+    (s t : AtExit (endedOf 0 is-dead-kinds.ps is-dead-kinds.r) κs) → is-dead.Post κs a r s
+    → is-dead.Post κs a q t
     → r ≡ q
-state-state-is-dead-settled κs a r q s t e f = e ∙ sym f
+is-dead-settled κs a r q s t e f = e ∙ sym f
 
-pub state-state-is-number-settled : (κs : Lfts 0) (a : Dens κs state-state-is-number-kinds.ps) (r q : resT state-state-is-number-kinds.r κs .Denot)
-    (s t : AtExit (endedOf 0 state-state-is-number-kinds.ps state-state-is-number-kinds.r) κs) → state-state-is-number.Post κs a r s
-    → state-state-is-number.Post κs a q t
+pub is-number-settled : (κs : Lfts 0) (a : Dens κs is-number-kinds.ps) (r q : resT is-number-kinds.r κs .Denot)
+    (s t : AtExit (endedOf 0 is-number-kinds.ps is-number-kinds.r) κs) → is-number.Post κs a r s
+    → is-number.Post κs a q t
     → r ≡ q
-state-state-is-number-settled κs a r q s t e f = e ∙ sym f
+is-number-settled κs a r q s t e f = e ∙ sym f
 
-pub state-state-dead-settled : (κs : Lfts 0) (a : Dens κs state-state-dead-kinds.ps) (r q : resT state-state-dead-kinds.r κs .Denot)
-    (s t : AtExit (endedOf 0 state-state-dead-kinds.ps state-state-dead-kinds.r) κs) → state-state-dead.Post κs a r s
-    → state-state-dead.Post κs a q t
+pub dead-settled : (κs : Lfts 0) (a : Dens κs dead-kinds.ps) (r q : resT dead-kinds.r κs .Denot)
+    (s t : AtExit (endedOf 0 dead-kinds.ps dead-kinds.r) κs) → dead.Post κs a r s
+    → dead.Post κs a q t
     → r ≡ q
-state-state-dead-settled κs a r q s t e f = e ∙ sym f
+dead-settled κs a r q s t e f = e ∙ sym f
 
-pub state-state-pass-settled : (κs : Lfts 0) (a : Dens κs state-state-pass-kinds.ps) (r q : resT state-state-pass-kinds.r κs .Denot)
-    (s t : AtExit (endedOf 0 state-state-pass-kinds.ps state-state-pass-kinds.r) κs) → state-state-pass.Post κs a r s
-    → state-state-pass.Post κs a q t
+pub pass-settled : (κs : Lfts 0) (a : Dens κs pass-kinds.ps) (r q : resT pass-kinds.r κs .Denot)
+    (s t : AtExit (endedOf 0 pass-kinds.ps pass-kinds.r) κs) → pass.Post κs a r s
+    → pass.Post κs a q t
     → r ≡ q
-state-state-pass-settled κs a r q s t e f = e ∙ sym f
+pass-settled κs a r q s t e f = e ∙ sym f
 
-pub state-state-close-settled : (κs : Lfts 0) (a : Dens κs state-state-close-kinds.ps) (r q : resT state-state-close-kinds.r κs .Denot)
-    (s t : AtExit (endedOf 0 state-state-close-kinds.ps state-state-close-kinds.r) κs) → state-state-close.Post κs a r s
-    → state-state-close.Post κs a q t
+pub close-settled : (κs : Lfts 0) (a : Dens κs close-kinds.ps) (r q : resT close-kinds.r κs .Denot)
+    (s t : AtExit (endedOf 0 close-kinds.ps close-kinds.r) κs) → close.Post κs a r s
+    → close.Post κs a q t
     → r ≡ q
-state-state-close-settled κs a r q s t e f = e ∙ sym f
+close-settled κs a r q s t e f = e ∙ sym f
 
-pub state-state-begin-settled : (κs : Lfts 0) (a : Dens κs state-state-begin-kinds.ps) (r q : resT state-state-begin-kinds.r κs .Denot)
-    (s t : AtExit (endedOf 0 state-state-begin-kinds.ps state-state-begin-kinds.r) κs) → state-state-begin.Post κs a r s
-    → state-state-begin.Post κs a q t
+pub begin-settled : (κs : Lfts 0) (a : Dens κs begin-kinds.ps) (r q : resT begin-kinds.r κs .Denot)
+    (s t : AtExit (endedOf 0 begin-kinds.ps begin-kinds.r) κs) → begin.Post κs a r s
+    → begin.Post κs a q t
     → r ≡ q
-state-state-begin-settled κs a r q s t e f = e ∙ sym f
+begin-settled κs a r q s t e f = e ∙ sym f
 
-pub state-state-turn-settled : (κs : Lfts 0) (a : Dens κs state-state-turn-kinds.ps) (r q : resT state-state-turn-kinds.r κs .Denot)
-    (s t : AtExit (endedOf 0 state-state-turn-kinds.ps state-state-turn-kinds.r) κs) → state-state-turn.Post κs a r s
-    → state-state-turn.Post κs a q t
+pub turn-settled : (κs : Lfts 0) (a : Dens κs turn-kinds.ps) (r q : resT turn-kinds.r κs .Denot)
+    (s t : AtExit (endedOf 0 turn-kinds.ps turn-kinds.r) κs) → turn.Post κs a r s
+    → turn.Post κs a q t
     → r ≡ q
-state-state-turn-settled κs a r q s t e f = e ∙ sym f
+turn-settled κs a r q s t e f = e ∙ sym f
 
-pub state-state-lead-settled : (κs : Lfts 0) (a : Dens κs state-state-lead-kinds.ps) (r q : resT state-state-lead-kinds.r κs .Denot)
-    (s t : AtExit (endedOf 0 state-state-lead-kinds.ps state-state-lead-kinds.r) κs) → state-state-lead.Post κs a r s
-    → state-state-lead.Post κs a q t
+pub lead-settled : (κs : Lfts 0) (a : Dens κs lead-kinds.ps) (r q : resT lead-kinds.r κs .Denot)
+    (s t : AtExit (endedOf 0 lead-kinds.ps lead-kinds.r) κs) → lead.Post κs a r s
+    → lead.Post κs a q t
     → r ≡ q
-state-state-lead-settled κs a r q s t e f = e ∙ sym f
+lead-settled κs a r q s t e f = e ∙ sym f
 
-pub state-state-grow-settled : (κs : Lfts 0) (a : Dens κs state-state-grow-kinds.ps) (r q : resT state-state-grow-kinds.r κs .Denot)
-    (s t : AtExit (endedOf 0 state-state-grow-kinds.ps state-state-grow-kinds.r) κs) → state-state-grow.Post κs a r s
-    → state-state-grow.Post κs a q t
+pub grow-settled : (κs : Lfts 0) (a : Dens κs grow-kinds.ps) (r q : resT grow-kinds.r κs .Denot)
+    (s t : AtExit (endedOf 0 grow-kinds.ps grow-kinds.r) κs) → grow.Post κs a r s
+    → grow.Post κs a q t
     → r ≡ q
-state-state-grow-settled κs a r q s t e f = e ∙ sym f
+grow-settled κs a r q s t e f = e ∙ sym f

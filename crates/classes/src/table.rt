@@ -1,5 +1,6 @@
 // The class of each byte, from byte 0 on.
-// What is asked of most bytes, white space or digit, is one comparison: white space stands before all other classes, and digits behind them.
+// What is asked of most bytes, white space or digit, is one comparison: white space stands before all other classes, and digits
+// behind them.
 pub const BLANK: u8 = 0;
 
 pub const RETURN: u8 = 1;

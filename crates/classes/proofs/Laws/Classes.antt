@@ -10,7 +10,8 @@ use borrow.Author.Tests.{eqb-true}
 use Rattle.laws.specs.Lists.{first, firstFrom}
 use Rattle.laws.proofs.First.{first-before}
 use Rattle.laws.proofs.Upward.{length-upTo, getD-upTo}
-use Rattle.classes.specs.Inner.Classes.{Class, Blank, Return, Newline, Minus, LetterC, LetterF, LetterN, LetterP, Rest, Nought, Digit}
+use Rattle.classes.specs.Inner.Classes.{Class, Blank, Return, Newline, Minus, LetterC, LetterF, LetterN, LetterP, Rest}
+use Rattle.classes.specs.Inner.Classes.{Nought, Digit}
 use Rattle.classes.specs.Inner.Classes.{classOf, code, isWhite, isDigit, isLetter, table}
 
 pub length-table : length table ≡ 256

@@ -22,7 +22,8 @@ use Rattle.text.specs.declared.number.Number.the-variants.{Wrong, Is}
 use Rattle.header.specs.Heads.{space, tab}
 use Rattle.classes.specs.Inner.Classes.{classOf, isWhite, isDigit}
 use Rattle.clausebytes.specs.Words.{mostLiterals}
-use Rattle.body.specs.Inner.Table.{Act, Die, Go, Close, Begin, Turn, Lead, Grow, EndPlain, EndNegated, sortOf, actOf, tokenOf, endsIn, isDead}
+use Rattle.body.specs.Inner.Table.{Act, Die, Go, Close, Begin, Turn, Lead, Grow, EndPlain, EndNegated}
+use Rattle.body.specs.Inner.Table.{sortOf, actOf, tokenOf, endsIn, isDead}
 use Rattle.body.specs.Inner.States.{startOf, accepts, deadOf, takenOf, openOf, begunOf, moveOf, stepOf}
 use Rattle.body.specs.declared.phase.Phase.{Phase}
 use Rattle.body.specs.declared.phase.Phase.the-variants.{Between, Closed, Sign, Plain, Negated, Dead}
@@ -240,7 +241,8 @@ ends-of-accepts s a = go (endsIn (s .phase)) a
     go true e = refl
     go false e = absurd (false≢true e)
 
--- A copy on its way: the reader is in some state at i, the pen is that state's, and what is pending and what follows is still to be written.
+-- A copy on its way: the reader is in some state at i, the pen is that state's, and what is pending and what follows is still to be
+-- written.
 pub record Copied (text : List ℕ) (start : State) (before : List ℕ) (pen : Pen) (i at : ℕ) (out : List ℕ) : Type 0 where
   pub state : State
   pub kept : Kept state

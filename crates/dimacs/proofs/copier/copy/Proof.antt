@@ -16,7 +16,8 @@ use Rattle.body.specs.declared.state.State.{State}
 use Rattle.dimacs.specs.Inner.Copies.{penBytes, penOf, endsWord, written}
 use Rattle.dimacs.specs.declared.copier.Pen.{Pen}
 use Rattle.dimacs.proofs.Laws.Bytes.{digit-no-white}
-use Rattle.dimacs.proofs.Laws.Copies.{Copied, copied-start, copied-length, copied-fits, copied-room, copied-next, copied-last, copied-end}
+use Rattle.dimacs.proofs.Laws.Copies.{Copied, copied-start, copied-length, copied-fits, copied-room, copied-next}
+use Rattle.dimacs.proofs.Laws.Copies.{copied-last, copied-end}
 use Rattle.dimacs.proofs.Laws.Copies.{pen-digit, pen-none, pen-minus, not-ended, ended}
 use Rattle.dimacs.proofs.copier.copy.Statement.{statement}
 use Rattle.dimacs.proofs.copier.copy.Tie as tie
@@ -75,7 +76,8 @@ digit-requires : tie.Need-digit-requires Inv-loop μ-loop
 digit-requires c κs =
     let at = at-of (c .before) in
     let s = start-of at in
-    copied-fits (text at) (begin at) (s .args .out .now) (s .pre .room) (pen at) (at .loop .i) (at .loop .at) (at .loop .out) (at .loop .inv)
+    copied-fits (text at) (begin at) (s .args .out .now) (s .pre .room) (pen at) (at .loop .i) (at .loop .at) (at .loop .out)
+    (at .loop .inv)
     (inside (c .before)) (s .fits .variables .fits) (is c)
 
 loop-again : tie.Need-loop-again Inv-loop μ-loop
@@ -139,7 +141,8 @@ last-room c =
     let at = end-of c in
     let s = start-of at in
     subst (λ (xs : List ℕ). at .loop .at + length (written (pen at .begun) xs) ≤ length (at .loop .out)) (sym (c .word2 .ensures))
-    (copied-last (text at) (begin at) (s .args .out .now) (s .pre .room) (pen at) (at .loop .i) (at .loop .at) (at .loop .out) (at .loop .inv)
+    (copied-last (text at) (begin at) (s .args .out .now) (s .pre .room) (pen at) (at .loop .i) (at .loop .at) (at .loop .out)
+    (at .loop .inv)
     (c .before .before .loop-test .left))
 
 same-length : tie.Need-same-length Inv-loop μ-loop
@@ -153,7 +156,8 @@ returns c =
     let word = put .before in
     let at = end-of word in
     let s = start-of at in
-    copied-end (text at) (begin at) (s .args .out .now) (s .pre .room) (pen at) (at .loop .i) (at .loop .at) (at .loop .out) (at .loop .inv)
+    copied-end (text at) (begin at) (s .args .out .now) (s .pre .room) (pen at) (at .loop .i) (at .loop .at) (at .loop .out)
+    (at .loop .inv)
     (word .before .before .loop-test .left) (put .put-word2 .result) (put .put-word2 .last .1 .0)
     (stored-as (ap (written (pen at .begun)) (sym (word .word2 .ensures))) (put .put-word2 .ensures))
 

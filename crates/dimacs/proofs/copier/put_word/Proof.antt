@@ -14,14 +14,16 @@ put-requires : tie.Need-put-requires
 put-requires c κs =
     let then = c .before in
     let s = then .before .before in
-    subst (λ (b : Bool). s .args .at + length (written b (little 4 (s .args .word))) ≤ length (s .args .out .now)) (then .if1 .taken) (s .pre)
+    subst (λ (b : Bool). s .args .at + length (written b (little 4 (s .args .word))) ≤ length (s .args .out .now)) (then .if1 .taken)
+    (s .pre)
 
 puts : tie.Need-returns
 puts c =
     let put = c .before .before in
     let then = put .before .before in
     let s = then .before .before in
-    stored-as (ap (λ (b : Bool). written b (little 4 (s .args .word))) (then .if1 .taken)) (record { place = refl; list = put .put .ensures })
+    stored-as (ap (λ (b : Bool). written b (little 4 (s .args .word))) (then .if1 .taken))
+    (record { place = refl; list = put .put .ensures })
 
 pub put-word-spec : {M : Type 1} → statement M
 put-word-spec =
