@@ -15,6 +15,8 @@ use Rattle.classes.proofs.is_white.Kinds as is-white-kinds
 use Rattle.classes.proofs.is_white.Reads as is-white
 use Rattle.classes.proofs.is_digit.Kinds as is-digit-kinds
 use Rattle.classes.proofs.is_digit.Reads as is-digit
+use Rattle.classes.proofs.is_space.Kinds as is-space-kinds
+use Rattle.classes.proofs.is_space.Reads as is-space
 
 pub classes-settled : (κs : Lfts 0) (a : Dens κs classes-kinds.ps) (r q : resT classes-kinds.r κs .Denot)
     (s t : AtExit (endedOf 0 classes-kinds.ps classes-kinds.r) κs) → classes.Post κs a r s
@@ -45,3 +47,9 @@ pub is-digit-settled : (κs : Lfts 1) (a : Dens κs is-digit-kinds.ps) (r q : re
     → is-digit.Post κs a q t
     → r ≡ q
 is-digit-settled κs a r q s t e f = e ∙ sym f
+
+pub is-space-settled : (κs : Lfts 0) (a : Dens κs is-space-kinds.ps) (r q : resT is-space-kinds.r κs .Denot)
+    (s t : AtExit (endedOf 0 is-space-kinds.ps is-space-kinds.r) κs) → is-space.Post κs a r s
+    → is-space.Post κs a q t
+    → r ≡ q
+is-space-settled κs a r q s t e f = e ∙ sym f

@@ -41,12 +41,20 @@ pub fn is_of(classes: &[u8], byte: u8, class: u8) -> bool
     class_of(classes, byte) == class
 }
 
-// Whether a byte is a letter that has a class of its own.
+// Whether a byte is a letter. Its class tells, but for letters of the rest.
 pub fn is_letter(classes: &[u8], byte: u8, letter: u8) -> bool
     requires { ⌜ Spelt (now classes) letter ⌝ }
     ensures { λ r. ⌜ r ≡ eqb byte letter ⌝ }
 {
-    class_of(classes, byte) == class_of(classes, letter)
+    let class = class_of(classes, byte);
+    let own = class_of(classes, letter);
+    if class != own {
+        return false;
+    }
+    if class == REST {
+        return byte == letter;
+    }
+    true
 }
 
 // Whether a byte is white space.
@@ -63,4 +71,23 @@ pub fn is_digit(classes: &[u8], byte: u8) -> bool
     ensures { λ r. ⌜ r ≡ isDigit (classOf byte) ⌝ }
 {
     class_of(classes, byte) > REST
+}
+
+// Whether a byte is white space, by itself: for a reader to which no table is lent.
+pub fn is_space(byte: u8) -> bool
+    ensures { λ r. ⌜ r ≡ isWhite (classOf byte) ⌝ }
+{
+    if 32 < byte {
+        return false;
+    }
+    if byte == 32 {
+        return true;
+    }
+    if byte == 9 {
+        return true;
+    }
+    if byte == 10 {
+        return true;
+    }
+    byte == 13
 }

@@ -6,13 +6,13 @@ use mathlib.Core.List.{List, [], _∷_, _++_, append-assoc}
 use Prim.Native.Nat.{ℕ}
 use lib.ListN.{length}
 use Rattle.text.specs.Texts.{decimal}
-use Rattle.header.specs.Heads.{Blanks, Numbers, space, none, blanks, just, number, header}
+use Rattle.header.specs.Heads.{Blanks, Numbers, space, blank, newline, none, blanks, just, number, header}
 use Rattle.answer.specs.Answers.{stored}
 use Rattle.answer.specs.declared.Answer.the-variants as answer
 use Rattle.clausal.specs.Clauses.{Clause, clausesBytes}
 use Rattle.clausebytes.specs.Words.{clausesOf, Right, wrongBytes}
 use Rattle.clausebytes.proofs.Encoded.{Bytes, not-wrong-of-right, clauses-of-bytes, right-of-bytes, bytes-back}
-use Rattle.dimacs.specs.Texts.{literalText, clauseLine, linesOf, writtenText, cnf, Body, blank, newline, end, white, zero, literal}
+use Rattle.dimacs.specs.Texts.{literalText, clauseLine, linesOf, writtenText, cnf, Body, end, white, zero, literal}
 use Rattle.dimacs.specs.Texts.{Follows, Text, writeCall}
 use Rattle.dimacs.specs.Inner.Calls.{readCall}
 use Rattle.dimacs.proofs.Reading.{reads, right-text}

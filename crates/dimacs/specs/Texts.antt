@@ -8,7 +8,7 @@ use lib.ListN.{length}
 use Rattle.answer.specs.Answers.{Wrote, stored}
 use Rattle.answer.specs.declared.Answer.the-variants as answer
 use Rattle.text.specs.Texts.{decimal}
-use Rattle.header.specs.Heads.{Blank, Headed}
+use Rattle.header.specs.Heads.{White, Headed}
 use Rattle.header.specs.declared.Form.{Form}
 use Rattle.clausal.specs.Clauses.{Literal, Clause}
 use mathlib.Core.Path.{_≡_}
@@ -37,12 +37,6 @@ writtenText v cs = headerLine v (length cs) ++ linesOf cs
 -- R9.7 and R9.8: the header has `cnf`, variables and clauses
 abbrev pub cnf : Form
 cnf = record { first = 99; second = 110; third = 102; pair = true; before = mostVariables; last = mostClauses }
-
--- R9.10
-pub data White : ℕ → Type 0 where
-  blank : {b : ℕ} → Blank b → White b
-  return : White 13
-  newline : White 10
 
 -- R9.9 and R9.12: literals and zeros, and the clauses that they stand for. A literal goes to the clause that what follows closes, so none
 -- is left open. The Bool says whether a literal or a zero may stand here: not right behind another.

@@ -3,3 +3,4 @@ pub mod Readers
 pub mod Heads
 pub mod Steps
 pub mod Reading
+pub mod White

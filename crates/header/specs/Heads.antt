@@ -1,4 +1,4 @@
--- R9.5 to R9.8, R9.11 and R9.13: comments and a header, by productions.
+-- R9.5 to R9.8, R9.10, R9.11 and R9.13: comments and a header, by productions, and white space.
 -- Each family says what may stand in a place of a text, and takes what may follow.
 -- Assumes nothing: these are definitions.
 use mathlib.Core.Bool.{Bool, true, false, not}
@@ -24,6 +24,12 @@ pub data Gap (Next : List ℕ → Type 0) : List ℕ → Type 0 where
 
 pub data Blanks (Next : List ℕ → Type 0) : List ℕ → Type 0 where
   blanks : {b : ℕ} {r : List ℕ} → Blank b → Gap Next r → Blanks Next (b ∷ r)
+
+-- R9.10: white space behind a header
+pub data White : ℕ → Type 0 where
+  blank : {b : ℕ} → Blank b → White b
+  return : White 13
+  newline : White 10
 
 -- R9.7: a certain byte
 pub data Byte (b : ℕ) (Next : List ℕ → Type 0) : List ℕ → Type 0 where

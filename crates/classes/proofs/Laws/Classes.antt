@@ -1,12 +1,12 @@
 -- The table at a byte, what the order of the classes is good for, and tests that agree at all bytes: each is computed once over all 256.
 -- Assumes nothing.
-use mathlib.Core.Path.{_≡_, refl, sym, _∙_, subst⁻¹}
-use mathlib.Core.Bool.{Bool, true, false, false≢true, _||_}
+use mathlib.Core.Path.{_≡_, refl, sym, ap, _∙_, subst⁻¹}
+use mathlib.Core.Bool.{Bool, true, false, false≢true, cond, not, _&&_, _||_}
 use Prim.Native.Nat.{ℕ, _<_}
 use native.Mathlib.Omega.{arith}
 use lib.Dec.{eqb, ltb}
 use lib.ListN.{length, getD}
-use borrow.Author.Tests.{eqb-true}
+use borrow.Author.Tests.{eqb-true, eq-eqb, ne-eqb}
 use Rattle.laws.specs.Lists.{first, firstFrom}
 use Rattle.laws.proofs.First.{first-before}
 use Rattle.laws.proofs.Upward.{length-upTo, getD-upTo}
@@ -87,6 +87,22 @@ told b l h = go (eqb l 99) refl (eqb l 102) refl (eqb l 110) refl (eqb l 112) re
     go false q false r false s true t o = subst⁻¹ (Told b) (eqb-true l 112 t) (letter-is 112 refl b h)
     go false q false r false s false t o = absurd (false≢true o)
 
-pub letter-test : (b l : ℕ) → b < 256 → l < 256 → isLetter (classOf l) ≡ true → Told b l
+-- another class is that of another byte; and a letter's class tells the letter, but for letters of the rest
+pub letter-other : (b l : ℕ) → (code (classOf b) ≡ code (classOf l) → ⊥) → false ≡ eqb b l
+letter-other b l n = sym (ne-eqb b l (λ e. n (ap (λ (k : ℕ). code (classOf k)) e)))
+
+pub letter-own : (b l : ℕ) → b < 256 → l < 256 → isLetter (classOf l) ≡ true → code (classOf b) ≡ code (classOf l)
+    → (code (classOf b) ≡ 8 → ⊥) → true ≡ eqb b l
 unfolding firstFrom
-letter-test b l h g e = told b l h (sym (agreed (λ k. isLetter (classOf k)) letters refl l g) ∙ e)
+letter-own b l h g e q n =
+    let own = agreed (λ k. isLetter (classOf k) && not (eqb (code (classOf k)) 8)) letters refl l g in
+    let m = ne-eqb (code (classOf l)) 8 (λ z. n (q ∙ z)) in
+    sym (eq-eqb (code (classOf b)) (code (classOf l)) q) ∙ told b l h (sym own ∙ rw (e, m))
+
+-- white space, by comparisons
+abbrev pub isSpace : ℕ → Bool
+isSpace b = cond (ltb 32 b) false (cond (eqb b 32) true (cond (eqb b 9) true (cond (eqb b 10) true (eqb b 13))))
+
+pub space-white : (b : ℕ) → b < 256 → isSpace b ≡ isWhite (classOf b)
+unfolding firstFrom
+space-white b h = agreed isSpace (λ k. isWhite (classOf k)) refl b h

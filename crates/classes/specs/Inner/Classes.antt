@@ -71,7 +71,7 @@ isDigit Rest = false
 isDigit Nought = true
 isDigit Digit = true
 
--- R20.1: a letter with a class of its own, beside the table
+-- R20.1: a letter with a class of its own, or one of the rest, beside the table
 abbrev pub isLetter : Class → Bool
 isLetter Blank = false
 isLetter Return = false
@@ -81,7 +81,7 @@ isLetter LetterC = true
 isLetter LetterF = true
 isLetter LetterN = true
 isLetter LetterP = true
-isLetter Rest = false
+isLetter Rest = true
 isLetter Nought = false
 isLetter Digit = false
 

@@ -25,7 +25,8 @@ use Rattle.body.specs.Inner.States.{deadOf, takenOf, closeOf, openOf, begunOf, 
 use Rattle.body.specs.declared.phase.Phase.{Phase}
 use Rattle.body.specs.declared.phase.Phase.the-variants.{Between, Closed, Sign, Plain, Negated, Dead}
 use Rattle.body.specs.declared.state.State.{State}
-use Rattle.dimacs.specs.Texts.{literalText, White, Body}
+use Rattle.dimacs.specs.Texts.{literalText, Body}
+use Rattle.header.specs.Heads.{White}
 use Rattle.dimacs.specs.Texts as grammar
 use Rattle.dimacs.specs.Inner.Walks.{tokenBytes}
 use Rattle.dimacs.proofs.Laws.Live as live

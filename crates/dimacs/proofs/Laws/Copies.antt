@@ -28,6 +28,8 @@ use Rattle.body.specs.Inner.States.{startOf, accepts, deadOf, takenOf, openOf, 
 use Rattle.body.specs.declared.phase.Phase.{Phase}
 use Rattle.body.specs.declared.phase.Phase.the-variants.{Between, Closed, Sign, Plain, Negated, Dead}
 use Rattle.body.specs.declared.state.State.{State}
+use Rattle.header.specs.Heads as head
+use Rattle.header.proofs.Laws.White.{white-class}
 use Rattle.dimacs.specs.Texts as grammar
 use Rattle.dimacs.specs.Inner.Walks.{tokenBytes, putsOf, stateFrom, bytesFrom}
 use Rattle.dimacs.specs.Inner.Copies.{noPen, penBytes, digitOf, minusOf, penOf, endsWord, written, Fits}
@@ -68,12 +70,6 @@ digit-class zero h = refl
 digit-class (suc d) h =
     rw (le-ltb (48 + suc d) 48 (omega arith), ne-eqb (48 + suc d) 48 (λ e. omega arith), lt-ltb (48 + suc d) 58 (omega arith))
 
-white-class : {b : ℕ} → grammar.White b → isWhite (classOf b) ≡ true
-white-class (grammar.blank space) = refl
-white-class (grammar.blank tab) = refl
-white-class grammar.return = refl
-white-class grammar.newline = refl
-
 -- one byte more of what follows the reader
 record Follows (p : Phase) (x b : ℕ) (a : Act) (r : State) : Type 0 where
   pen : penOf (penIn p x) b ≡ penFor r
@@ -97,11 +93,11 @@ pen-none p b d w = λ i. cond (d i) (digitOf p b) (cond (w i) noPen (minusOf p))
 pub pen-minus : (p : Pen) (b : ℕ) → isDigit (classOf b) ≡ false → isWhite (classOf b) ≡ false → penOf p b ≡ minusOf p
 pen-minus p b d w = λ i. cond (d i) (digitOf p b) (cond (w i) noPen (minusOf p))
 
-pen-white : (p : Pen) {b : ℕ} → grammar.White b → penOf p b ≡ noPen
-pen-white p (grammar.blank space) = refl
-pen-white p (grammar.blank tab) = refl
-pen-white p grammar.return = refl
-pen-white p grammar.newline = refl
+pen-white : (p : Pen) {b : ℕ} → head.White b → penOf p b ≡ noPen
+pen-white p (head.blank space) = refl
+pen-white p (head.blank tab) = refl
+pen-white p head.return = refl
+pen-white p head.newline = refl
 
 -- what is written of a word at a byte that is no white space, and at one that is
 pub not-ended : (p : Pen) (b : ℕ) (out : List ℕ) (at : ℕ) → isWhite (classOf b) ≡ false
@@ -130,7 +126,7 @@ digit-bytes p b e d =
     ap (λ (c : Bool). written (cond c (isWhite (classOf b)) false) (penBytes p)) e
     ∙ ap (λ (c : Bool). written c (penBytes p)) (digit-no-white (classOf b) d)
 
-white-bytes : (p : Pen) {b : ℕ} → p .begun ≡ true → grammar.White b → written (endsWord p b) (penBytes p) ≡ penBytes p
+white-bytes : (p : Pen) {b : ℕ} → p .begun ≡ true → head.White b → written (endsWord p b) (penBytes p) ≡ penBytes p
 white-bytes p {b} e y =
     ap (λ (c : Bool). written (cond c (isWhite (classOf b)) false) (penBytes p)) e
     ∙ ap (λ (c : Bool). written c (penBytes p)) (white-class y)

@@ -14,30 +14,30 @@ use Rattle.body.specs.Inner.Table.{Sort, Nought, Digit, Minus, White, Other, so
 use Rattle.body.specs.Inner.Table.{Act, Die, Go, Close, Begin, Turn, Lead, Grow, EndPlain, EndNegated}
 use Rattle.body.specs.declared.phase.Phase.{Phase}
 use Rattle.body.specs.declared.phase.Phase.the-variants.{Between, Closed, Sign, Plain, Negated, Dead}
-use Rattle.dimacs.specs.Texts as grammar
+use Rattle.header.specs.Heads as head
 
 pub data Live : Phase → ℕ → Act → Type 0 where
   close : Live Between 48 Close
   begin : {d : ℕ} → 0 < d → d < 10 → Live Between (48 + d) Begin
   turn : Live Between 45 Turn
-  pass : {b : ℕ} → grammar.White b → Live Between b Go
-  part : {b : ℕ} → grammar.White b → Live Closed b Go
+  pass : {b : ℕ} → head.White b → Live Between b Go
+  part : {b : ℕ} → head.White b → Live Closed b Go
   lead : {d : ℕ} → 0 < d → d < 10 → Live Sign (48 + d) Lead
   grow-plain : {d : ℕ} → d < 10 → Live Plain (48 + d) Grow
-  end-plain : {b : ℕ} → grammar.White b → Live Plain b EndPlain
+  end-plain : {b : ℕ} → head.White b → Live Plain b EndPlain
   grow-negated : {d : ℕ} → d < 10 → Live Negated (48 + d) Grow
-  end-negated : {b : ℕ} → grammar.White b → Live Negated b EndNegated
+  end-negated : {b : ℕ} → head.White b → Live Negated b EndNegated
 
 -- the sorts of bytes
 pub sort-digit : (d : ℕ) → 0 < d → d < 10 → sortOf (48 + d) ≡ Digit
 sort-digit d h g =
     rw (le-ltb (48 + d) 48 (omega arith), ne-eqb (48 + d) 48 (λ e. omega arith), lt-ltb (48 + d) 58 (omega arith))
 
-sort-white : {b : ℕ} → grammar.White b → sortOf b ≡ White
-sort-white (grammar.blank space) = refl
-sort-white (grammar.blank tab) = refl
-sort-white grammar.return = refl
-sort-white grammar.newline = refl
+sort-white : {b : ℕ} → head.White b → sortOf b ≡ White
+sort-white (head.blank space) = refl
+sort-white (head.blank tab) = refl
+sort-white head.return = refl
+sort-white head.newline = refl
 
 -- a live entry is what the table says
 grows : (p : Phase) → actOf p Nought ≡ Grow → actOf p Digit ≡ Grow → (d : ℕ) → d < 10 → actOf p (sortOf (48 + d)) ≡ Grow
@@ -67,7 +67,7 @@ abbrev pub Is : Sort → ℕ → Type 0
 Is Nought b = b ≡ 48
 Is Digit b = Numeral b
 Is Minus b = b ≡ 45
-Is White b = grammar.White b
+Is White b = head.White b
 Is Other b = Unit
 
 test : (b m : ℕ) (x y : Class) → (b ≡ m → Is (sortIn x) b) → ((b ≡ m → ⊥) → Is (sortIn y) b) → Is (sortIn (cond (eqb b m) x y)) b
@@ -86,10 +86,10 @@ below b m x y f g = go (ltb b m) refl
 
 low-is : (b : ℕ) → Is (sortIn (lowOf b)) b
 low-is b =
-    test b 32 class.Blank _ (λ e. subst⁻¹ grammar.White e (grammar.blank space)) λ _.
-    test b 9 class.Blank _ (λ e. subst⁻¹ grammar.White e (grammar.blank tab)) λ _.
-    test b 13 class.Return _ (λ e. subst⁻¹ grammar.White e grammar.return) λ _.
-    test b 10 class.Newline _ (λ e. subst⁻¹ grammar.White e grammar.newline) λ _.
+    test b 32 class.Blank _ (λ e. subst⁻¹ head.White e (head.blank space)) λ _.
+    test b 9 class.Blank _ (λ e. subst⁻¹ head.White e (head.blank tab)) λ _.
+    test b 13 class.Return _ (λ e. subst⁻¹ head.White e head.return) λ _.
+    test b 10 class.Newline _ (λ e. subst⁻¹ head.White e head.newline) λ _.
     test b 45 class.Minus class.Rest (λ e. e) (λ _. tt)
 
 high-is : (b : ℕ) → Is (sortIn (highOf b)) b

@@ -31,6 +31,7 @@ use Rattle.body.specs.declared.phase.Phase.the-variants.{Between, Closed, Sign,
 use Rattle.body.specs.declared.state.State.{State}
 use Rattle.body.proofs.Laws.Places.{alive, live-state, dead-only, dead-step}
 use Rattle.dimacs.specs.Texts.{literalText, Body}
+use Rattle.header.specs.Heads as head
 use Rattle.dimacs.specs.Texts as grammar
 use Rattle.dimacs.specs.Inner.Walks.{tokenBytes, putsOf}
 use Rattle.dimacs.proofs.Laws.Bodies.{Rest, Part, Behind, LangIn, Lang, st, KeptIn, Kept, lang-on, lang-back}
@@ -165,10 +166,10 @@ Some F = (t : List ℕ) × F t
 
 zeros : (j : ℕ) → Some (Body true (blanksOf j))
 zeros zero = ([], grammar.end)
-zeros (suc j) = let e = zeros j in (48 ∷ 32 ∷ e .0, grammar.zero (grammar.white (grammar.blank space) (e .1)))
+zeros (suc j) = let e = zeros j in (48 ∷ 32 ∷ e .0, grammar.zero (grammar.white (head.blank space) (e .1)))
 
 spaced : (j : ℕ) → Some (Body false (blanksOf j))
-spaced j = let e = zeros j in (32 ∷ e .0, grammar.white (grammar.blank space) (e .1))
+spaced j = let e = zeros j in (32 ∷ e .0, grammar.white (head.blank space) (e .1))
 
 module _ (v k c n : ℕ) (few : n ≤ mostLiterals) where
   count-blanks : (j : ℕ) → length (blanksOf j) ≡ j
