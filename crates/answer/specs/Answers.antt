@@ -5,7 +5,7 @@ use Prim.Native.Nat.{ℕ}
 use lib.Dec.{eqb, ltb}
 use Rattle.answer.specs.declared.Answer.{Answer}
 use Rattle.answer.specs.declared.Answer.the-variants.{Accepted, TableLength, Options, Record, Set, Clauses, Literals, Room, Text}
-use Rattle.answer.specs.declared.Answer.the-variants.{ClauseBytes, Line, AnswerPart, NoClause, Names}
+use Rattle.answer.specs.declared.Answer.the-variants.{ClauseBytes, Line, AnswerPart, NoClause, Names, SatText, Nodes}
 use Rattle.answer.specs.declared.Told.{Told}
 use mathlib.Core.List.{List, _++_}
 use lib.ListN.{length}
@@ -37,6 +37,8 @@ toldOf (Line line) = refused 10 line
 toldOf AnswerPart = refused 11 0
 toldOf (NoClause clause) = refused 15 clause
 toldOf Names = refused 16 0
+toldOf (SatText place) = refused 17 (cap mostShown place)
+toldOf Nodes = refused 18 0
 
 abbrev pub refuses : Answer → Bool
 refuses a = not (eqb (toldOf a .number) 0)

@@ -38,6 +38,10 @@ pub enum Answer {
     NoClause { clause: u32 },
     // A list of names breaks its rules.
     Names,
+    // The `p sat` text is not accepted: the length of its longest good beginning.
+    SatText { place: usize },
+    // The formula of a text has more nodes than a table may have.
+    Nodes,
 }
 
 // The four numbers of an answer.
@@ -84,6 +88,8 @@ pub fn tell(answer: Answer) -> Told
         Answer::AnswerPart => refusal(11, 0),
         Answer::NoClause { clause } => refusal(15, clause as usize),
         Answer::Names => refusal(16, 0),
+        Answer::SatText { place } => refusal(17, shown(place) as usize),
+        Answer::Nodes => refusal(18, 0),
     }
 }
 
