@@ -1,0 +1,2 @@
+-- Laws and theorems of the reader of `p sat` texts.
+pub mod Laws

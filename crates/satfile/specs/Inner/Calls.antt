@@ -1,0 +1,35 @@
+-- R21.16 to R21.20: what the call gives, by the reader.
+-- Assumes nothing: these are definitions.
+use mathlib.Core.Bool.{cond}
+use mathlib.Core.List.{List}
+use Prim.Native.Nat.{ℕ, _-_}
+use lib.Dec.{ltb}
+use lib.ListN.{length, drop}
+use Rattle.answer.specs.Answers.{Wrote, stored}
+use Rattle.answer.specs.declared.Answer.the-variants.{Accepted, SatText, Nodes}
+use Rattle.header.specs.Inner.Heads.{isDone, headOf}
+use Rattle.formula.specs.Tables.{mostNodes}
+use Rattle.satfile.specs.Trees.{Tree, sizeOf, tableOf}
+use Rattle.satfile.specs.Texts.{sat}
+use Rattle.satfile.specs.Inner.Reads.{Out, Read, Bad, wholeIn}
+
+-- R21.17 to R21.20: a formula over v options and the buffer for its table: refusal 18, then 7
+abbrev pub treeCall : ℕ → Tree → List ℕ → Wrote (List ℕ)
+treeCall v t buffer =
+    cond (ltb mostNodes (sizeOf t))
+    (record { answer = Nodes; output = buffer })
+    (stored (Accepted v (sizeOf t)) (tableOf t) buffer)
+
+-- what stands behind the header of a text
+abbrev pub bodyCall : List ℕ → ℕ → Out Tree → List ℕ → Wrote (List ℕ)
+bodyCall text v (Read t r) buffer = treeCall v t buffer
+bodyCall text v (Bad m) buffer = record { answer = SatText (length text - length m); output = buffer }
+
+-- R21.16: a text and the buffer: refusal 17, and then as above. By `proofs/Reading` the text is accepted exactly if the grammar has it,
+-- the table is that of its formula, and the place is that of R9.21
+abbrev pub readCall : List ℕ → List ℕ → Wrote (List ℕ)
+readCall text buffer =
+    let head = headOf sat text in
+    cond (isDone (head .phase))
+    (bodyCall text (head .value) (wholeIn (head .value) (drop (head .place) text)) buffer)
+    (record { answer = SatText (head .place); output = buffer })

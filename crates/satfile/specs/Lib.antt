@@ -1,0 +1,4 @@
+-- Texts of the other DIMACS format, in the order of the rules.
+pub mod Trees
+pub mod Texts
+pub mod Inner
