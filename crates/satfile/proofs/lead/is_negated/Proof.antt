@@ -1,21 +1,15 @@
+-- `satfile::lead::is_negated` meets its contract: without options a parenthesis has to be filled. Assumes nothing.
+use mathlib.Core.Path.{_∙_, sym}
 use borrow.Author.Needs.{needs}
+use borrow.Author.Tests.{eq-eqb, ne-eqb}
+use Rattle.satfile.proofs.Laws.Rests.{taken, left}
 use Rattle.satfile.proofs.lead.is_negated.Statement.{statement}
 use Rattle.satfile.proofs.lead.is_negated.Tie as tie
-use Rattle.satfile.proofs.lead.is_negated.Reads as reads
-use Rattle.satfile.proofs.lead.is_negated.Lts as lts
-use Rattle.satfile.proofs.lead.is_filled.Reads as is-filled-reads
-
--- src/lead.rt:135:9
-is-filled-requires : tie.Need-is-filled-requires
-is-filled-requires c κs = search needs
-
--- src/lead.rt:135:9
-returns : tie.Need-returns
-returns c = ?
-
--- src/lead.rt:131:1
-returns-2 : tie.Need-returns-2
-returns-2 c = ?
 
 pub is-negated-spec : {M : Type 1} → statement M
-is-negated-spec = tie.close (tie.spec is-filled-requires returns returns-2)
+is-negated-spec =
+    tie.close
+    (tie.spec
+    (λ c κs. search needs)
+    (λ c. c .is-filled .ensures ∙ sym (taken _ _ _ (eq-eqb _ _ (c .before .if1 .taken))))
+    (λ c. sym (left _ _ _ (ne-eqb _ _ (c .if1 .left)))))

@@ -1,58 +1,68 @@
+-- `satfile::lead::skip` meets its contract: white space is passed byte by byte. The invariant: what is left has the same text behind
+-- its white space. Assumes nothing.
+use mathlib.Core.Path.{_≡_, refl, sym, _∙_}
+use Prim.Native.Nat.{_-_, _≤_}
+use native.Mathlib.Omega.{arith}
+use borrow.Author.Needs.{needs}
+use borrow.Author.Tests.{not-true, not-false}
+use lib.ListN.{length, drop}
+use Rattle.satfile.specs.Inner.Reads.{skipped}
+use Rattle.satfile.proofs.Laws.Rests.{skipped-end, skipped-stop, skipped-on}
 use Rattle.satfile.proofs.lead.skip.Statement.{statement}
 use Rattle.satfile.proofs.lead.skip.Tie as tie
-use Rattle.satfile.proofs.lead.skip.Reads as reads
-use Rattle.satfile.proofs.lead.skip.Lts as lts
-use Rattle.classes.proofs.is_space.Reads as is-space-reads
 
-abbrev Inv-loop : tie.InvT-loop
-Inv-loop text at i₀ i = ?
+abbrev Inv : tie.InvT-loop
+Inv text at i₀ i = (at ≤ i) × (i ≤ length text) × (skipped (drop i text) ≡ skipped (drop at text))
 
-abbrev μ-loop : tie.MeasureT-loop
-μ-loop text at i₀ i = ?
+abbrev μ : tie.MeasureT-loop
+μ text at i₀ i = length text - i
 
--- src/lead.rt:68:5
-loop-holds : tie.Need-loop-holds Inv-loop μ-loop
-loop-holds c = ?
+stops : tie.Need-returns Inv μ
+stops c =
+    let space = c .before in
+    let test = space .before .before in
+    let loop = test .before in
+    record {
+      rest =
+          sym (skipped-stop (loop .before .before .args .text .now) (loop .loop .i) (test .loop-test .taken)
+              (sym (space .is-space .ensures) ∙ not-true (space .is-space .result) (c .if1 .taken)))
+          ∙ loop .loop .inv .2;
+      onward = loop .loop .inv .0;
+      within = loop .loop .inv .1;
+    }
 
--- src/lead.rt:69:22
-shared-slice-read-is-space : tie.Need-shared-slice-read-is-space Inv-loop μ-loop
-shared-slice-read-is-space c = ?
+goes : tie.Need-loop-again Inv μ
+goes c =
+    let space = c .before in
+    let test = space .before .before in
+    let loop = test .before in (
+      omega (arith, loop .loop .inv .0),
+      omega (arith, test .loop-test .taken),
+      sym (skipped-on (loop .before .before .args .text .now) (loop .loop .i) (test .loop-test .taken)
+          (sym (space .is-space .ensures) ∙ not-false (space .is-space .result) (c .if1 .left)))
+      ∙ loop .loop .inv .2,
+    )
 
--- src/lead.rt:69:13
-is-space-requires : tie.Need-is-space-requires Inv-loop μ-loop
-is-space-requires c κs = ?
-
--- src/lead.rt:70:13
-returns : tie.Need-returns Inv-loop μ-loop
-returns c = ?
-
--- src/lead.rt:72:9
-add-i : tie.Need-add-i Inv-loop μ-loop
-add-i c = ?
-
--- src/lead.rt:68:5
-loop-less : tie.Need-loop-less Inv-loop μ-loop
-loop-less c = ?
-
--- src/lead.rt:68:5
-loop-again : tie.Need-loop-again Inv-loop μ-loop
-loop-again c = ?
-
--- src/lead.rt:63:1
-returns-2 : tie.Need-returns-2 Inv-loop μ-loop
-returns-2 c = ?
+ends : tie.Need-returns-2 Inv μ
+ends c =
+    let loop = c .before in
+    record {
+      rest = sym (skipped-end (loop .before .before .args .text .now) (loop .loop .i) (c .loop-test .left)) ∙ loop .loop .inv .2;
+      onward = loop .loop .inv .0;
+      within = loop .loop .inv .1;
+    }
 
 pub skip-spec : {M : Type 1} → statement M
 skip-spec =
     tie.close
     (tie.spec
-    Inv-loop
-    μ-loop
-    loop-holds
-    shared-slice-read-is-space
-    is-space-requires
-    returns
-    add-i
-    loop-less
-    loop-again
-    returns-2)
+    Inv
+    μ
+    (λ c. (omega arith, c .before .pre, refl))
+    (λ c. search needs)
+    (λ c κs. search needs)
+    stops
+    (λ c. search needs)
+    (λ c. omega arith)
+    goes
+    ends)

@@ -1,30 +1,25 @@
+-- `satfile::nested::is_parted` meets its contract: the end of the text, a `)`, or white space. Assumes nothing.
+use mathlib.Core.Path.{sym, _∙_}
 use borrow.Author.Needs.{needs}
+use Rattle.satfile.proofs.Laws.Rests.{parted-end, parted-close, parted-space}
 use Rattle.satfile.proofs.nested.is_parted.Statement.{statement}
 use Rattle.satfile.proofs.nested.is_parted.Tie as tie
-use Rattle.satfile.proofs.nested.is_parted.Reads as reads
-use Rattle.satfile.proofs.nested.is_parted.Lts as lts
-use Rattle.classes.proofs.is_space.Reads as is-space-reads
 
--- src/nested.rt:73:9
-returns : tie.Need-returns
-returns c = ?
+text-ends : tie.Need-returns
+text-ends c = let a = c .before .before .args in sym (parted-end (a .text .now) (a .at) (c .if1 .taken))
 
--- src/nested.rt:75:16
-shared-slice-read-byte : tie.Need-shared-slice-read-byte
-shared-slice-read-byte c = search needs
+closes : tie.Need-returns-2
+closes c =
+    let if1 = c .before .before in
+    let a = if1 .before .before .args in
+    sym (parted-close (a .text .now) (a .at) (if1 .if1 .left) (c .if2 .taken))
 
--- src/nested.rt:77:9
-returns-2 : tie.Need-returns-2
-returns-2 c = ?
-
--- src/nested.rt:79:5
-is-space-requires : tie.Need-is-space-requires
-is-space-requires c κs = search needs
-
--- src/nested.rt:68:1
-returns-3 : tie.Need-returns-3
-returns-3 c = ?
+spaces : tie.Need-returns-3
+spaces c =
+    let if2 = c .before in
+    let if1 = if2 .before .before in
+    let a = if1 .before .before .args in
+    c .is-space .ensures ∙ sym (parted-space (a .text .now) (a .at) (if1 .if1 .left) (if2 .if2 .left))
 
 pub is-parted-spec : {M : Type 1} → statement M
-is-parted-spec =
-    tie.close (tie.spec returns shared-slice-read-byte returns-2 is-space-requires returns-3)
+is-parted-spec = tie.close (tie.spec text-ends (λ c. search needs) closes (λ c κs. search needs) spaces)
