@@ -1,1 +1,2 @@
 -- Laws of the reader, by subject.
+pub mod Records
