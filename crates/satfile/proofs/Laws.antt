@@ -1,2 +1,4 @@
 -- Laws of the reader, by subject.
+pub mod Records
 pub mod Rests
+pub mod Stores
