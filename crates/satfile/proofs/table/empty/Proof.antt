@@ -1,29 +1,22 @@
+-- `satfile::table::empty` meets its contract: a list with members needs no constant. Assumes nothing.
 use borrow.Author.Needs.{needs}
+use Rattle.satfile.proofs.Laws.Stores.{empty-none, empty-one}
 use Rattle.satfile.proofs.table.empty.Statement.{statement}
 use Rattle.satfile.proofs.table.empty.Tie as tie
-use Rattle.satfile.proofs.table.empty.Reads as reads
-use Rattle.satfile.proofs.table.empty.Lts as lts
-use Rattle.satfile.proofs.table.put.Reads as put-reads
 
--- src/table.rt:80:9
-returns : tie.Need-returns
-returns c = ?
+none : tie.Need-returns
+none c =
+    let a = c .before .before .args in
+    empty-none (a .kind) (a .next) (a .behind) (a .table .now) (c .if1 .taken)
 
--- src/table.rt:82:5
-put-requires : tie.Need-put-requires
-put-requires c κs = search needs
-
--- src/table.rt:83:5
-add-result : tie.Need-add-result
-add-result c = search needs
-
--- src/table.rt:75:1
-same-length : tie.Need-same-length
-same-length c = search needs
-
--- src/table.rt:75:1
-returns-2 : tie.Need-returns-2
-returns-2 c = ?
+one : tie.Need-returns-2
+one c =
+    let put = c .before .before in
+    let else = put .before .before in
+    let a = else .before .before .args in
+    empty-one (a .kind) (a .next) (a .behind) (else .if1 .left) (put .put .ensures)
 
 pub empty-spec : {M : Type 1} → statement M
-empty-spec = tie.close (tie.spec returns put-requires add-result same-length returns-2)
+empty-spec =
+    tie.close
+    (tie.spec none (λ c κs. search needs) (λ c. search needs) (λ c. search needs) one)

@@ -1,52 +1,31 @@
+-- `satfile::table::fold` meets its contract: the first member is joined to nothing. Assumes nothing.
 use borrow.Author.Needs.{needs}
+use Rattle.satfile.proofs.Laws.Stores.{fold-alone, fold-joined}
 use Rattle.satfile.proofs.table.fold.Statement.{statement}
 use Rattle.satfile.proofs.table.fold.Tie as tie
-use Rattle.satfile.proofs.table.fold.Reads as reads
-use Rattle.satfile.proofs.table.fold.Lts as lts
-use Rattle.satfile.proofs.table.joining.Reads as joining-reads
-use Rattle.satfile.proofs.table.put.Reads as put-reads
 
--- src/table.rt:68:9
-returns : tie.Need-returns
-returns c = ?
+alone : tie.Need-returns
+alone c =
+    let a = c .before .before .args in
+    fold-alone (a .group) (a .next) (a .behind) (a .after) (a .table .now) (c .if1 .taken)
 
--- src/table.rt:70:23
-joining-requires : tie.Need-joining-requires
-joining-requires c κs = search needs
-
--- src/table.rt:70:39
-sub-put : tie.Need-sub-put
-sub-put c = search needs
-
--- src/table.rt:70:51
-sub-put-2 : tie.Need-sub-put-2
-sub-put-2 c = search needs
-
--- src/table.rt:70:5
-put-requires : tie.Need-put-requires
-put-requires c κs = search needs
-
--- src/table.rt:71:5
-add-result : tie.Need-add-result
-add-result c = search needs
-
--- src/table.rt:63:1
-same-length : tie.Need-same-length
-same-length c = search needs
-
--- src/table.rt:63:1
-returns-2 : tie.Need-returns-2
-returns-2 c = ?
+joined : tie.Need-returns-2
+joined c =
+    let put = c .before .before in
+    let joining = put .before in
+    let else = joining .before .before in
+    let a = else .before .before .args in
+    fold-joined (a .group) (a .next) (a .behind) (a .after) (else .if1 .left) (joining .joining .ensures) (put .put .ensures)
 
 pub fold-spec : {M : Type 1} → statement M
 fold-spec =
     tie.close
     (tie.spec
-    returns
-    joining-requires
-    sub-put
-    sub-put-2
-    put-requires
-    add-result
-    same-length
-    returns-2)
+    alone
+    (λ c κs. search needs)
+    (λ c. search needs)
+    (λ c. search needs)
+    (λ c κs. search needs)
+    (λ c. search needs)
+    (λ c. search needs)
+    joined)

@@ -1,56 +1,41 @@
+-- `satfile::table::leaf` meets its contract: a symbol, and a not behind it. Assumes nothing.
 use borrow.Author.Needs.{needs}
+use borrow.Author.Tests.{not-true, not-false}
+use Rattle.satfile.proofs.Laws.Stores.{adds-symbol, adds-negated, roomy-one, roomy-two}
 use Rattle.satfile.proofs.table.leaf.Statement.{statement}
 use Rattle.satfile.proofs.table.leaf.Tie as tie
-use Rattle.satfile.proofs.table.leaf.Reads as reads
-use Rattle.satfile.proofs.table.leaf.Lts as lts
-use Rattle.satfile.proofs.table.put.Reads as put-reads
 
--- src/table.rt:40:5
-put-requires : tie.Need-put-requires
-put-requires c κs = search needs
+abbrev put-of : tie.After-slice-known2 → tie.After-put
+put-of c = c .before .before
 
--- src/table.rt:42:16
-add-result : tie.Need-add-result
-add-result c = ?
+abbrev start-of : tie.After-slice-known2 → tie.Start
+start-of c = put-of c .before .before .before
 
--- src/table.rt:42:9
-same-length : tie.Need-same-length
-same-length c = search needs
+plain : tie.Need-returns
+plain c =
+    let a = start-of (c .before) .args in
+    adds-symbol (a .value) (a .next) (put-of (c .before) .put .ensures) (a .negated) (not-true (a .negated) (c .if1 .taken))
 
--- src/table.rt:42:9
-returns : tie.Need-returns
-returns c = ?
-
--- src/table.rt:44:16
-add-put : tie.Need-add-put
-add-put c = ?
-
--- src/table.rt:44:5
-put-requires-2 : tie.Need-put-requires-2
-put-requires-2 c κs = search needs
-
--- src/table.rt:45:5
-add-result-2 : tie.Need-add-result-2
-add-result-2 c = ?
-
--- src/table.rt:36:1
-same-length-2 : tie.Need-same-length-2
-same-length-2 c = search needs
-
--- src/table.rt:36:1
-returns-2 : tie.Need-returns-2
-returns-2 c = ?
+negated : tie.Need-returns-2
+negated c =
+    let second = c .before .before in
+    let else = second .before .before in
+    let a = start-of (else .before) .args in
+    adds-negated (a .value) (a .next) (put-of (else .before) .put .ensures) (a .negated) (not-false (a .negated) (else .if1 .left))
+    ?
 
 pub leaf-spec : {M : Type 1} → statement M
 leaf-spec =
     tie.close
     (tie.spec
-    put-requires
-    add-result
-    same-length
-    returns
-    add-put
-    put-requires-2
-    add-result-2
-    same-length-2
-    returns-2)
+    (λ c κs. search needs)
+    (λ c. let s = start-of (c .before) in roomy-one (s .args .next) (s .args .negated) (s .pre))
+    (λ c. search needs)
+    plain
+    (λ c. let s = start-of (c .before .before) in roomy-one (s .args .next) (s .args .negated) (s .pre))
+    (λ c κs. search needs)
+    (λ c. let else = c .before .before .before .before in
+    let s = start-of (else .before) in
+    roomy-two (s .args .next) (s .args .negated) (not-false (s .args .negated) (else .if1 .left)) (s .pre))
+    (λ c. search needs)
+    negated)

@@ -1,29 +1,13 @@
+-- `satfile::table::put` meets its contract: a node for which there is no room is not stored. Assumes nothing.
+use mathlib.Core.Path.{refl}
+use native.Mathlib.Omega.{arith}
 use borrow.Author.Needs.{needs}
 use Rattle.satfile.proofs.table.put.Statement.{statement}
 use Rattle.satfile.proofs.table.put.Tie as tie
-use Rattle.satfile.proofs.table.put.Reads as reads
-use Rattle.satfile.proofs.table.put.Lts as lts
-use Rattle.formula.proofs.node.put_node.Reads as put-node-reads
 
--- src/table.rt:31:25
-mul-put-node : tie.Need-mul-put-node
-mul-put-node c = search needs
-
--- src/table.rt:31:9
-put-node-requires : tie.Need-put-node-requires
-put-node-requires c κs = search needs
-
--- src/table.rt:27:1
-same-length : tie.Need-same-length
-same-length c = search needs
-
--- src/table.rt:27:1
-returns : tie.Need-returns
-returns c = search needs
-
--- src/table.rt:27:1
-returns-2 : tie.Need-returns-2
-returns-2 c = ?
+no-room : tie.Need-returns-2
+no-room c = record { nodes = refl; same = refl; stored = λ h. absurd (omega (arith, c .if1 .left)) }
 
 pub put-spec : {M : Type 1} → statement M
-put-spec = tie.close (tie.spec mul-put-node put-node-requires same-length returns returns-2)
+put-spec =
+    tie.close (tie.spec (λ c. search needs) (λ c κs. search needs) (λ c. search needs) (λ c. search needs) no-room)
