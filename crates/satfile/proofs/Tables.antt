@@ -45,11 +45,11 @@ module _ {v : ℕ} {Inside : Tree → List ℕ → List ℕ → Type 0}
 nothing-within : (v : ℕ) (t : Tree) (l r : List ℕ) → Nothing t l r → Within v t
 nothing-within v t l r n = elim n [ ]
 
-formula-within : (v d : ℕ) (t : Tree) (l r : List ℕ) → Formula v d t l r → Within v t
+pub formula-within : (v d : ℕ) (t : Tree) (l r : List ℕ) → Formula v d t l r → Within v t
 formula-within v zero t l r f = over-within (nothing-within v) f
 formula-within v (suc d) t l r f = over-within (formula-within v d) f
 
-body-within : {v : ℕ} {t : Tree} {l : List ℕ} → Body v t l → Within v t
+pub body-within : {v : ℕ} {t : Tree} {l : List ℕ} → Body v t l → Within v t
 body-within {v} {t} (grammar.body {m = m} {n} s f e) = formula-within v mostOpen t m n f
 
 -- R21.3: the symbols of a text are options, and there are no more options than a call takes
