@@ -1,2 +1,3 @@
 -- Laws and theorems of the reader of `p sat` texts.
 pub mod Laws
+pub mod Tables
