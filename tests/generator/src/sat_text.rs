@@ -13,7 +13,7 @@ const MOST_OPEN: usize = 64;
 /// One in this many requests is the written text, cut at a byte. These go through all of its bytes.
 const CUT_TURN: usize = 20;
 
-/// A right text with all forms. Short as it is, each of its bytes is cut.
+/// A right text with all forms.
 const WRITTEN: &str = "c all forms\n\
     c\n\
     p \tsat  32000\t\n\
@@ -70,7 +70,7 @@ const DAMAGE: Damage = Damage {
     ],
 };
 
-/// Bytes of which formulas are made. Two of three draws could follow some other.
+/// Bytes of which formulas are made.
 const FORMULA_BYTES: &[u8] = b"1()-*+ 2\n";
 
 /// A formula that is written from the left. A list's nodes are those of its members and one less than these. So there are
