@@ -139,11 +139,11 @@ fn main() {
     let nested = |symbol: usize| format!("{open}{symbol}{closed}");
     measure("nested parentheses", &[list_of(SYMBOLS / 20, nested)]);
 
-    // Half of the symbols, and a fold for each of them but one.
+    // Symbols, and a fold for each of them but one: a node less than may be.
     let most = list_of(MOST_NODES / 2, |symbol| symbol.to_string());
-    measure("as many nodes as may be", &[most.clone()]);
-    measure("the same after comments", &[commented(&most)]);
-    measure("the same, nested", &[list_of(MOST_NODES / 2, nested)]);
+    measure("1,023 nodes", &[most.clone()]);
+    measure("1,023 nodes after comments", &[commented(&most)]);
+    measure("1,023 nodes, nested", &[list_of(MOST_NODES / 2, nested)]);
 
     let short: Vec<Vec<u8>> = tables::sample().iter().filter_map(text_of).collect();
     let name = format!("{} texts of guards", short.len());

@@ -245,7 +245,7 @@ int main()
     });
     std::printf("  %zu clauses: write_dimacs %zu, read_dimacs %zu\n", clause_count, writing, reading);
 
-    // Texts of formulas. The last is a long one of as many nodes as may be.
+    // Texts of formulas, as deep as they may be, and flat ones.
     std::printf("  %-38s  read_sat\n", "texts of formulas");
     for (const std::string opening : {"(", "*(", "-(", "*(1 ", "(*(1 -(+(", ""})
         std::printf("  %-38s  %8zu\n", opening.empty() ? "one symbol" : ("64 open: " + opening).c_str(),
