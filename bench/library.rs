@@ -99,18 +99,34 @@ mod entry {
             answer: *mut u8,
             answer_len: usize,
         ) -> u32;
+        pub fn simbolufa_read_sat(
+            text: *const u8,
+            text_len: usize,
+            table: *mut u8,
+            table_len: usize,
+            answer: *mut u8,
+            answer_len: usize,
+        ) -> u32;
     }
+}
+
+/// Makes a call. Gives the four numbers of its answer part.
+fn answered(call: impl FnOnce(*mut u8, usize) -> u32) -> [u32; 4] {
+    let mut answer = [0; 16];
+    let result = call(answer.as_mut_ptr(), answer.len());
+    let number = |at: usize| {
+        u32::from_le_bytes([answer[at], answer[at + 1], answer[at + 2], answer[at + 3]])
+    };
+    let numbers = [0, 4, 8, 12].map(number);
+    assert_eq!(result, numbers[0], "the call returns its number");
+    numbers
 }
 
 /// Makes a call that must be accepted. Gives the two values of its answer part.
 pub fn accepted(call: impl FnOnce(*mut u8, usize) -> u32) -> [u32; 2] {
-    let mut answer = [0; 16];
-    let result = call(answer.as_mut_ptr(), answer.len());
-    assert_eq!(result, 0, "what is timed is accepted");
-    let value = |at: usize| {
-        u32::from_le_bytes([answer[at], answer[at + 1], answer[at + 2], answer[at + 3]])
-    };
-    [value(8), value(12)]
+    let [number, _, first, second] = answered(call);
+    assert_eq!(number, 0, "what is timed is accepted");
+    [first, second]
 }
 
 // In each call a pointer is lent with its own length, and no two buffers overlap.
@@ -269,6 +285,20 @@ pub fn read_dimacs(text: &[u8], clauses: &mut [u8]) -> [u32; 2] {
             text.len(),
             clauses.as_mut_ptr(),
             clauses.len(),
+            answer,
+            answer_len,
+        )
+    })
+}
+
+/// The four numbers of the answer part. A text of too many nodes is read to its end and refused.
+pub fn read_sat(text: &[u8], table: &mut [u8]) -> [u32; 4] {
+    answered(|answer, answer_len| unsafe {
+        entry::simbolufa_read_sat(
+            text.as_ptr(),
+            text.len(),
+            table.as_mut_ptr(),
+            table.len(),
             answer,
             answer_len,
         )

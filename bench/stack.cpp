@@ -168,6 +168,26 @@ size_t measured_with(uint32_t (*entry)(const Bytes &), const Bytes &table)
     return measured([&] { return entry(table); });
 }
 
+// A symbol inside as many parentheses as may be open, of these kinds.
+std::string nested_formula(const std::string &opening)
+{
+    constexpr size_t most_open = 64;
+    size_t each = std::count(opening.begin(), opening.end(), '('), open = 0;
+    std::string formula;
+    for (; each > 0 && open + each <= most_open; open += each)
+        formula += opening;
+    return formula + "1" + std::string(open, ')');
+}
+
+size_t measured_reading(const std::string &formula)
+{
+    std::string written = "p sat 1\n" + formula;
+    Bytes text(written.begin(), written.end());
+    return measured([&] {
+        return simbolufa_read_sat(text.data(), text.size(), out.data(), out.size(), answer.data(), answer.size());
+    });
+}
+
 } // namespace
 
 int main()
@@ -224,4 +244,14 @@ int main()
                                      answer.size());
     });
     std::printf("  %zu clauses: write_dimacs %zu, read_dimacs %zu\n", clause_count, writing, reading);
+
+    // Texts of formulas, as deep as they may be, and flat ones.
+    std::printf("  %-38s  read_sat\n", "texts of formulas");
+    for (const std::string opening : {"(", "*(", "-(", "*(1 ", "(*(1 -(+(", ""})
+        std::printf("  %-38s  %8zu\n", opening.empty() ? "one symbol" : ("64 open: " + opening).c_str(),
+                    measured_reading(nested_formula(opening)));
+    std::string list = "*(1";
+    for (size_t i = 1; i < most_nodes / 2; i++)
+        list += " 1";
+    std::printf("  %-38s  %8zu\n", "a list of 1,023 nodes", measured_reading(list + ")"));
 }

@@ -40,6 +40,13 @@ def pairs(found):
     )
 
 
+def folded(found):
+    kind, count = (int(word) for word in found.groups())
+    symbol = f"02{number(1)}{number(0)}"
+    folds = (f"{symbol}{kind:02x}{number(at - 2)}{number(at - 1)}" for at in range(2, 2 * count, 2))
+    return symbol + "".join(folds)
+
+
 def nodes(found):
     """The node file of an option count and a table."""
     options, table = int(found[1]), bytes.fromhex(found[2])
@@ -63,6 +70,7 @@ MACROS = [
     (r"\{twice (\d+) (\d+) (\d+)\}", twice),
     (r"\{over (\d+) (\d+) (\d+) (\d+)\}", over),
     (r"\{pairs (\d+) (\d+) (\d+)\}", pairs),
+    (r"\{folded (\d+) (\d+)\}", folded),
     (r"\{nodes (\d+) ([0-9a-f]*)\}", nodes),
     (r"\{lent (\d+) ([-0-9a-f+*]+)\}", lent),
 ]

@@ -350,6 +350,18 @@ uint32_t read_dimacs(Request &request)
 }
 #endif
 
+#ifdef SIMBOLUFA_HAS_READ_SAT
+uint32_t read_sat(Request &request)
+{
+    Lent &text = request.input();
+    Lent &table = request.output();
+    Lent &answer = request.answer_part();
+    request.end();
+    return simbolufa_read_sat(text.data(), text.size(), table.data(), table.size(), answer.data(),
+                              answer.size());
+}
+#endif
+
 const std::map<std::string, uint32_t (*)(Request &)> operations = {
     {"check", check},
 #ifdef SIMBOLUFA_HAS_MEASURE
@@ -375,6 +387,9 @@ const std::map<std::string, uint32_t (*)(Request &)> operations = {
 #endif
 #ifdef SIMBOLUFA_HAS_READ_DIMACS
     {"read_dimacs", read_dimacs},
+#endif
+#ifdef SIMBOLUFA_HAS_READ_SAT
+    {"read_sat", read_sat},
 #endif
 };
 

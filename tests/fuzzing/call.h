@@ -112,7 +112,7 @@ public:
         Said said{number_at(bytes, 0), number_at(bytes, 4), number_at(bytes, 8), number_at(bytes, 12)};
         must(said.number == result, "the answer part has another number than the call returned");
         must(result == 0 || (said.first == 0 && said.second == 0), "a refusal has a value");
-        bool has_place = is_for_a_record(result) || result == 4 || result == 8 || result == 15;
+        bool has_place = is_for_a_record(result) || result == 4 || result == 8 || result == 15 || result == 17;
         must(has_place || said.place == 0, "a place where there is none");
         return said;
     }

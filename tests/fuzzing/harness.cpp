@@ -14,12 +14,15 @@ using namespace fuzzing;
 namespace {
 
 constexpr uint32_t clause_ceiling = 65535, literal_ceiling = 1000000;
-constexpr uint32_t most_clauses = 65534, most_literals = 999999, most_options = 32000;
+constexpr uint32_t most_clauses = 65534, most_literals = 999999;
 // Conversions of more steps are asked with a short buffer, and longer tables are not asked of the reference.
 constexpr uint64_t most_steps = 20000000;
 constexpr size_t longest_asked_table = 512, longest_asked_output = 100000;
 // Origins whose lines may be longer than this are asked with a short buffer.
 constexpr size_t longest_lines = size_t(4) << 20;
+// The table of a text with more options is not taken through all entries: names would be made for all of them.
+constexpr uint32_t most_whole_options = 100;
+constexpr size_t most_nodes = 1024;
 
 // A formula as it is lent.
 struct Formula {
@@ -389,7 +392,9 @@ void origin(const Case &from, const Named &named, Wanted clause, size_t answer_l
         return;
     must(said.first == formula.options + named.helpers(), "origin: other variables");
     must(said.second == totals.first, "origin: another clause total");
-    must(std::equal(text.begin(), text.end(), out.data()), "origin: the text hangs on the room");
+    // Of bytes: a char over 127 is below 0 on some machines.
+    const Bytes bytes(text.begin(), text.end());
+    must(std::equal(bytes.begin(), bytes.end(), out.data()), "origin: the text hangs on the room");
     if (!clause)
         return hold_lines(named, names, totals, text);
     // The line is one of all lines.
@@ -476,6 +481,17 @@ Said read_dimacs(const Case &from, const Bytes &bytes, size_t room, size_t answe
     return said;
 }
 
+// Holds the place of a text that is refused: what stands before it begins some accepted text, and with one byte more it does
+// not.
+template <typename Read> void hold_place(const Bytes &text, const Said &said, Read read)
+{
+    for (size_t length = said.place; length <= std::min<size_t>(text.size(), said.place + size_t(1)); length++) {
+        Said other = read(Bytes(text.begin(), text.begin() + length));
+        bool is_cut = length == said.place && other.number != said.number;
+        must(is_cut || (other.number == said.number && other.place == said.place), "another place for a beginning");
+    }
+}
+
 // Reads a text of the fuzzer. What is accepted is written and read again, and a refusal's place is held.
 void read_any(const Case &from)
 {
@@ -484,15 +500,57 @@ void read_any(const Case &from)
     Said said = read_dimacs(from, text, room, from.answer_length(), clauses);
     if (said.number == 0)
         write_dimacs(from, clauses, said.first, SIMBOLUFA_ANSWER_LENGTH);
-    if (said.number != 8)
+    if (said.number == 8)
+        hold_place(text, said, [&](const Bytes &front) {
+            return read_dimacs(from, front, 0, SIMBOLUFA_ANSWER_LENGTH, again);
+        });
+}
+
+// Reads the text of a formula. `table` gets the nodes where it is accepted.
+Said read_sat(const Case &from, const Bytes &bytes, size_t room, size_t answer_length, Bytes &table)
+{
+    Call call(from, "read_sat");
+    Lent &text = call.input(bytes);
+    Lent &out = call.output(room);
+    Lent &answer = call.answer_part(answer_length);
+    uint32_t result =
+        simbolufa_read_sat(text.data(), text.size(), out.data(), out.size(), answer.data(), answer.size());
+    bool is_accepted = result == 0 && answer.size() == SIMBOLUFA_ANSWER_LENGTH;
+    size_t written = is_accepted ? node_length * number_at(answer.now(), 12) : 0;
+    Said said = call.made(result, written);
+    must(result == 0 || result == 7 || result == 11 || result == 17 || result == 18, "read_sat: no such refusal");
+    must(said.place <= bytes.size(), "read_sat: a place after the text");
+    if (bytes.size() <= longest_asked_output)
+        call.ask_reference(result);
+    table = out.now();
+    table.resize(written);
+    return said;
+}
+
+void whole(const Case &from, Formula formula);
+
+// Reads the text of a formula of the fuzzer. What is accepted is a right table, and is taken through all other entries. A
+// refusal's place is held.
+void read_any_formula(const Case &from)
+{
+    Bytes text = from.first(), table;
+    if (from.tames_first())
+        text = tamed_text(text, from.number());
+    Said most = read_sat(from, text, node_length * most_nodes, SIMBOLUFA_ANSWER_LENGTH, table);
+    must(most.number != 7, "read_sat: no room for the most nodes");
+    must(most.number != 17 || !from.tames_first(), "read_sat: a right text is refused");
+    Said said = read_sat(from, text, from.room(table.size()), from.answer_length(), table);
+    must(said.number == most.number || said.number == 7 || said.number == 11, "read_sat: the room changes the answer");
+    if (most.number == 17)
+        hold_place(text, most, [&](const Bytes &front) {
+            return read_sat(from, front, 0, SIMBOLUFA_ANSWER_LENGTH, table);
+        });
+    if (said.number != 0)
         return;
-    // What stands before the place begins some accepted text, and with one byte more it does not.
-    for (size_t length = said.place; length <= std::min<size_t>(text.size(), said.place + size_t(1)); length++) {
-        Bytes front(text.begin(), text.begin() + length);
-        Said other = read_dimacs(from, front, 0, SIMBOLUFA_ANSWER_LENGTH, again);
-        bool is_cut = length == said.place && (other.number == 0 || other.number == 7);
-        must(is_cut || (other.number == 8 && other.place == said.place), "read_dimacs: another place for a beginning");
-    }
+    Formula formula{said.first, table, {}};
+    must(checked(formula).number == 0, "read_sat: a table that check refuses");
+    if (formula.is_asked() && formula.options <= most_whole_options)
+        whole(from, formula);
 }
 
 void write_any(const Case &from)
@@ -505,9 +563,8 @@ void write_any(const Case &from)
 
 // Chooses, converts under the chosen set, converts once more after that, writes the clauses, and asks where they come
 // from.
-void whole(const Case &from)
+void whole(const Case &from, Formula formula)
 {
-    Formula formula = formula_of(from);
     formula.set = choose(from, formula, formula.nodes(), SIMBOLUFA_ANSWER_LENGTH);
     uint32_t variables = 0;
     Bytes clauses = convert(from, formula, {}, SIMBOLUFA_ANSWER_LENGTH, variables);
@@ -527,7 +584,7 @@ extern "C" int LLVMFuzzerTestOneInput(const uint8_t *data, size_t size)
 {
     Case from(data, size);
     uint32_t variables = 0;
-    switch (from.entry() % 10) {
+    switch (from.entry() % 11) {
     case 0:
         check(from, formula_of(from));
         break;
@@ -557,8 +614,11 @@ extern "C" int LLVMFuzzerTestOneInput(const uint8_t *data, size_t size)
     case 8:
         origin(from, named_of(from), {}, from.answer_length());
         break;
+    case 9:
+        read_any_formula(from);
+        break;
     default:
-        whole(from);
+        whole(from, formula_of(from));
     }
     return 0;
 }

@@ -1,4 +1,5 @@
-// Right tables, sets, clause bytes and lists of names, made from any bytes, so that cases get past the checks.
+// Right tables, sets, clause bytes, lists of names and texts of formulas, made from any bytes, so that cases get past the
+// checks.
 #pragma once
 
 #include "call.h"
@@ -6,7 +7,8 @@
 namespace fuzzing {
 
 constexpr size_t node_length = 5;
-constexpr uint32_t most_variables = 40000;
+constexpr uint32_t most_variables = 40000, most_options = 32000;
+constexpr size_t most_open = 64;
 
 // A table of right nodes, made from any bytes.
 inline Bytes tamed_table(Bytes table, uint32_t options)
@@ -83,6 +85,114 @@ inline Bytes tamed_names(const Bytes &bytes, size_t count)
         names.push_back('\n');
     }
     return names;
+}
+
+// A right text of a formula over so many options, that is written from the left.
+class TamedFormula {
+public:
+    explicit TamedFormula(uint32_t options) : options(options), text("p sat " + std::to_string(options) + "\n") {}
+
+    // Puts what a byte asks for, where it may stand: a symbol, an opening, a closing or white space.
+    void put(uint8_t byte)
+    {
+        static const char *const openings[] = {"(", "-(", "*(", "+("};
+        uint8_t kind = byte % 8, rest = byte / 8;
+        if (kind < 2)
+            put_symbol(kind == 1, rest);
+        else if (kind < 6)
+            put_opening(openings[kind - 2]);
+        else if (kind == 6)
+            put_closing();
+        else
+            text += " \t\r\n"[rest % 4];
+    }
+
+    // Closes all that is open.
+    Bytes ended()
+    {
+        do {
+            if (lacks_formula())
+                put_least();
+            put_closing();
+        } while (!open.empty());
+        return Bytes(text.begin(), text.end());
+    }
+
+private:
+    // An open parenthesis, and how many formulas stand in it.
+    struct Open {
+        bool is_list;
+        size_t formulas;
+    };
+
+    // Whether exactly one formula belongs here, and is not there yet.
+    bool lacks_formula() const { return open.empty() ? !has_formula : !open.back().is_list && open.back().formulas == 0; }
+
+    // Whether a formula may stand here, if it opens so many parentheses at once.
+    bool may_stand(size_t opened) const
+    {
+        return open.size() + opened <= most_open && (lacks_formula() || (!open.empty() && open.back().is_list));
+    }
+
+    // Counts a formula, and parts it from the one before.
+    void begin()
+    {
+        if (open.empty())
+            has_formula = true;
+        else if (open.back().formulas++ > 0)
+            text += ' ';
+    }
+
+    void put_symbol(bool is_negated, uint8_t rest)
+    {
+        if (options == 0 || !may_stand(0))
+            return;
+        begin();
+        // The first symbols, and the last ones.
+        uint32_t symbol = rest % 2 == 0 ? 1 + rest % options : options - rest % options;
+        text += (is_negated ? "-" : "") + std::to_string(symbol);
+    }
+
+    void put_opening(const std::string &opening)
+    {
+        bool is_list = opening[0] == '*' || opening[0] == '+';
+        // Inside plain parentheses a formula follows. With no option it opens one more.
+        if (!may_stand(is_list || options > 0 ? 1 : 2))
+            return;
+        begin();
+        text += opening;
+        open.push_back({is_list, 0});
+    }
+
+    void put_closing()
+    {
+        if (open.empty() || lacks_formula())
+            return;
+        open.pop_back();
+        text += ')';
+    }
+
+    void put_least()
+    {
+        if (options > 0)
+            return put_symbol(false, 0);
+        put_opening("*(");
+        put_closing();
+    }
+
+    uint32_t options;
+    std::string text;
+    std::vector<Open> open;
+    bool has_formula = false;
+};
+
+// A right text of a formula, made from any bytes.
+inline Bytes tamed_text(const Bytes &bytes, uint32_t options)
+{
+    TamedFormula formula(options % (most_options + 1));
+    for (uint8_t byte : bytes)
+        formula.put(byte);
+    return formula.ended();
 }
 
 } // namespace fuzzing

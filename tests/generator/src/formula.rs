@@ -31,7 +31,7 @@ pub fn right_formula(random: &mut Random, count: usize) -> Formula {
     from_nodes(nodes, options)
 }
 
-fn option_count(random: &mut Random) -> u32 {
+pub fn option_count(random: &mut Random) -> u32 {
     let some = random.between(1, 32_000) as u32;
     let few = random.between(2, 20) as u32;
     random.pick(&[0, 1, few, few, few, few, few, some, some, 32_000])

@@ -13,6 +13,7 @@ mod node_file;
 mod origin;
 mod random;
 mod request;
+mod sat_text;
 mod set;
 mod table;
 

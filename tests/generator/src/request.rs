@@ -8,6 +8,7 @@ use crate::formula::{any_formula, right_formula, small_formula, Formula};
 use crate::node_file::node_file;
 use crate::origin;
 use crate::random::Random;
+use crate::sat_text;
 use crate::set::set;
 use crate::table::MOST_NODES;
 use reference::dimacs_writer;
@@ -35,6 +36,7 @@ pub fn request(
         "origins" => origin::origins(random),
         "write_dimacs" => write_dimacs(random),
         "read_dimacs" => read_dimacs(random),
+        "read_sat" => sat_text::read_sat(random, turn),
         "program" => program(random),
         _ => return None,
     };
@@ -137,11 +139,11 @@ fn read_dimacs(random: &mut Random) -> String {
     let mut text = dimacs_text::right(random);
     match random.below(20) {
         0..=6 => {}
-        7 => text.bytes = dimacs_text::noise(random),
-        8..=17 => dimacs_text::damage(random, &mut text.bytes),
+        7 => text.bytes = dimacs_text::noise(random, &dimacs_text::DAMAGE),
+        8..=17 => dimacs_text::damage(random, &mut text.bytes, &dimacs_text::DAMAGE),
         _ => {
             for _ in 0..3 {
-                dimacs_text::damage(random, &mut text.bytes);
+                dimacs_text::damage(random, &mut text.bytes, &dimacs_text::DAMAGE);
             }
         }
     }
@@ -212,6 +214,7 @@ mod tests {
             "origins",
             "write_dimacs",
             "read_dimacs",
+            "read_sat",
         ] {
             assert_eq!(requests(1, operation), requests(1, operation));
             assert_ne!(requests(1, operation), requests(2, operation));

@@ -5,7 +5,7 @@ use reference::choose::choose;
 use reference::convert;
 use reference::polarity::{self, Mark};
 use reference::protocol::{shown, Fields, Wrong};
-use reference::{dimacs_reader, dimacs_writer, origin, program, set, table};
+use reference::{dimacs_reader, dimacs_writer, origin, program, sat_reader, set, table};
 
 /// The answer to a request.
 pub fn answer(line: &str) -> Result<String, Wrong> {
@@ -20,6 +20,7 @@ pub fn answer(line: &str) -> Result<String, Wrong> {
         "origins" => origin_lines,
         "write_dimacs" => write_dimacs,
         "read_dimacs" => read_dimacs,
+        "read_sat" => read_sat,
         "program" => run_program,
         "marks" => marks,
         "set" => check_set,
@@ -158,6 +159,15 @@ fn read_dimacs(fields: &mut Fields) -> Result<String, Wrong> {
     let answer = fields.answer_part()?;
     Ok(written(clauses, answer, |lent| {
         dimacs_reader::clause_bytes(&text, lent)
+    }))
+}
+
+fn read_sat(fields: &mut Fields) -> Result<String, Wrong> {
+    let text = fields.input()?;
+    let table = fields.output()?;
+    let answer = fields.answer_part()?;
+    Ok(written(table, answer, |lent| {
+        sat_reader::table_bytes(&text, lent)
     }))
 }
 
@@ -346,6 +356,37 @@ mod tests {
     }
 
     #[test]
+    fn the_text_of_a_formula_is_read_into_a_table() {
+        // `p sat 1` and a newline, then `-1`.
+        let text = "702073617420310a2d31";
+        let refused = |number: u8, place: u8| {
+            format!(
+                "{number} 0560bb1671cc2782dd {number:02x}000000{place:02x}0000000000000000000000"
+            )
+        };
+        assert_eq!(
+            answer(&format!("read_sat {text} 11 16")).unwrap(),
+            "0 0201000000030000000093 00000000000000000100000002000000"
+        );
+        assert_eq!(
+            answer(&format!("read_sat {text} 9 16")).unwrap(),
+            refused(7, 0)
+        );
+        assert_eq!(
+            answer(&format!("read_sat {text}20+31 9 16")).unwrap(),
+            refused(17, 11)
+        );
+        assert_eq!(
+            answer(&format!("read_sat {text} 1 4")).unwrap(),
+            "11 05 0b30557a"
+        );
+        assert_eq!(
+            answer("read_sat = - 16").unwrap(),
+            "17 - 11000000000000000000000000000000"
+        );
+    }
+
+    #[test]
     fn the_program_answers_with_what_it_prints() {
         // `options`, a tab, 0 and a newline.
         assert_eq!(
@@ -379,6 +420,8 @@ mod tests {
             "origins 1 0 0201000000 00 610a - 20 16",
             "origins 1 0201000000 00 610a 20 16",
             "read_dimacs 00 16",
+            "read_sat 00 16",
+            "read_sat 00 = 16",
         ] {
             assert!(answer(line).is_err(), "{line}");
         }

@@ -1,101 +1,8 @@
-//! Reading DIMACS text.
-//!
-//! The place of refusal 8 is the number of bytes before the first byte that no accepted text could
-//! have there. So each byte is taken only where what stands so far can still be finished, and the
-//! place is how many bytes were taken.
+//! Reading DIMACS text of clauses. A text that is not accepted is refused by 8.
 
 use crate::answer::Refusal;
+use crate::cursor::Cursor;
 use crate::dimacs_writer::{MOST_CLAUSES, MOST_LITERALS, MOST_VARIABLES};
-
-/// The bytes taken so far, and the text.
-struct Cursor<'a> {
-    text: &'a [u8],
-    taken: usize,
-}
-
-impl Cursor<'_> {
-    fn next(&self) -> Option<u8> {
-        self.text.get(self.taken).copied()
-    }
-
-    fn take(&mut self) {
-        self.taken += 1;
-    }
-
-    fn refused<T>(&self) -> Result<T, Refusal> {
-        Err(Refusal::at(8, self.taken))
-    }
-
-    fn take_one(&mut self, byte: u8) -> Result<(), Refusal> {
-        if self.next() != Some(byte) {
-            return self.refused();
-        }
-        self.take();
-        Ok(())
-    }
-
-    /// Takes as many of these bytes as there are. Gives whether there was one.
-    fn take_any(&mut self, bytes: &[u8]) -> bool {
-        let before = self.taken;
-        while self.next().map_or(false, |byte| bytes.contains(&byte)) {
-            self.take();
-        }
-        self.taken > before
-    }
-
-    /// Takes the digits of a number without a leading zero, from `least` to `most`.
-    fn take_number(&mut self, least: u32, most: u32) -> Result<u32, Refusal> {
-        let mut number = match self.next() {
-            Some(byte @ b'0'..=b'9') => u32::from(byte - b'0'),
-            _ => return self.refused(),
-        };
-        if number < least || number > most {
-            return self.refused();
-        }
-        self.take();
-        while let Some(byte @ b'0'..=b'9') = self.next() {
-            let longer = 10 * number + u32::from(byte - b'0');
-            if number == 0 || longer > most {
-                return self.refused();
-            }
-            number = longer;
-            self.take();
-        }
-        Ok(number)
-    }
-}
-
-const BLANKS: &[u8] = b" \t";
-const WHITE_SPACE: &[u8] = b" \t\r\n";
-
-/// Comments and the header. Gives the declared variables and clauses.
-fn take_header(cursor: &mut Cursor) -> Result<(u32, u32), Refusal> {
-    while cursor.next() == Some(b'c') {
-        while cursor.next().map_or(false, |byte| byte != b'\n') {
-            cursor.take();
-        }
-        cursor.take_one(b'\n')?;
-    }
-    cursor.take_one(b'p')?;
-    take_blanks(cursor)?;
-    for &byte in b"cnf" {
-        cursor.take_one(byte)?;
-    }
-    take_blanks(cursor)?;
-    let variables = cursor.take_number(0, MOST_VARIABLES)?;
-    take_blanks(cursor)?;
-    let clauses = cursor.take_number(0, MOST_CLAUSES)?;
-    cursor.take_any(BLANKS);
-    cursor.take_one(b'\n')?;
-    Ok((variables, clauses))
-}
-
-fn take_blanks(cursor: &mut Cursor) -> Result<(), Refusal> {
-    match cursor.take_any(BLANKS) {
-        true => Ok(()),
-        false => cursor.refused(),
-    }
-}
 
 /// The numbers after the header. White space parts them.
 fn take_numbers(cursor: &mut Cursor, variables: u32, clauses: u32) -> Result<Vec<i32>, Refusal> {
@@ -104,7 +11,7 @@ fn take_numbers(cursor: &mut Cursor, variables: u32, clauses: u32) -> Result<Vec
     // The header's newline parts it from the first number.
     let mut is_parted = true;
     loop {
-        is_parted |= cursor.take_any(WHITE_SPACE);
+        is_parted |= cursor.take_white_space();
         let byte = match cursor.next() {
             Some(byte) if is_parted && closed < clauses => byte,
             // The text's end, a byte that does not part two numbers, or a number too many.
@@ -145,8 +52,8 @@ fn take_literal(cursor: &mut Cursor, variables: u32) -> Result<i32, Refusal> {
 /// The clause bytes, with the declared variables and clauses, for a buffer of `lent` bytes.
 /// Else refusal 8 or 7.
 pub fn clause_bytes(text: &[u8], lent: usize) -> Result<(Vec<u8>, [u32; 2]), Refusal> {
-    let mut cursor = Cursor { text, taken: 0 };
-    let (variables, clauses) = take_header(&mut cursor)?;
+    let mut cursor = Cursor::new(text, 8);
+    let [variables, clauses] = cursor.take_header(b"cnf", [MOST_VARIABLES, MOST_CLAUSES])?;
     let numbers = take_numbers(&mut cursor, variables, clauses)?;
     if 4 * numbers.len() > lent {
         return Err(Refusal::new(7));

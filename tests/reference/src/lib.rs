@@ -3,6 +3,7 @@
 pub mod answer;
 pub mod choose;
 pub mod convert;
+pub mod cursor;
 pub mod dimacs_reader;
 pub mod dimacs_writer;
 pub mod fast_choose;
@@ -13,6 +14,7 @@ pub mod per_clause;
 pub mod polarity;
 pub mod program;
 pub mod protocol;
+pub mod sat_reader;
 pub mod set;
 pub mod table;
 pub mod totals;

@@ -3,11 +3,11 @@
 use crate::answer::Refusal;
 
 /// The bytes of a node.
-const NODE_LENGTH: usize = 5;
+pub const NODE_LENGTH: usize = 5;
 /// The bytes of the longest table.
-const LONGEST_TABLE: usize = 5_120;
+pub const LONGEST_TABLE: usize = 5_120;
 /// The largest option count.
-const MOST_OPTIONS: u32 = 32_000;
+pub const MOST_OPTIONS: u32 = 32_000;
 
 /// A node that keeps to the rules. Children are node numbers.
 #[derive(Clone, Copy, Debug, PartialEq, Eq)]
