@@ -14,7 +14,7 @@ use Rattle.formula.specs.Tables.{nodeBytes, nodeRecord}
 use Rattle.satfile.specs.Trees.{Join, And, Or, Tree, Empty, Not, Joined, sizeOf, emptyKind, joinKind, recordsFrom}
 use Rattle.satfile.specs.Inner.Reads.{Partly, none, some, withOne, groupTree, joinOf, leafOf, isFull}
 use Rattle.satfile.specs.Inner.Stores.{Adds, partRecords, partNodes, joinRecord, foldRecords, foldNodes, emptyRecords, emptyNodes}
-use Rattle.satfile.specs.Inner.Stores.{endRecords, endNodes, Roomy}
+use Rattle.satfile.specs.Inner.Stores.{endRecords, endNodes, Roomy, HasChild}
 use Rattle.satfile.specs.Inner.Parts.{leafNodes}
 use Rattle.satfile.specs.declared.lead.Group.{Group}
 use Rattle.satfile.specs.declared.lead.Group.the-variants as group
@@ -53,13 +53,15 @@ module _ (n i : ℕ) {a b : List ℕ} (symbol : Adds (nodeRecord 2 n 0) 1 a i (i
   adds-symbol false e = symbol
   adds-symbol true e = absurd (false≢true (sym e))
 
-  pub adds-negated : (negated : Bool) → negated ≡ true → {c : List ℕ} {k : ℕ} → Adds (nodeRecord 3 i 0) 1 b (i + 1) k c
-      → Adds (recordsFrom i (leafOf n negated)) (leafNodes negated) a i k c
+  pub adds-negated : (negated : Bool) → negated ≡ true → {c : List ℕ} → Adds (nodeRecord 3 i 0) 1 b (i + 1) (i + 1 + 1) c
+      → Adds (recordsFrom i (leafOf n negated)) (leafNodes negated) a i (i + 2) c
   unfolding recordsFrom
   adds-negated false e f = absurd (false≢true e)
-  adds-negated true e f =
+  adds-negated true e {c} f =
       let q : i ≡ i + 1 - 1 = omega arith in
-      adds-as (ap (λ (x : ℕ). nodeRecord 2 n 0 ++ nodeRecord 3 x 0) q) refl (adds-then refl symbol f)
+      let k : i + 1 + 1 ≡ i + 2 = omega arith in
+      subst (λ (j : ℕ). Adds (recordsFrom i (leafOf n true)) 2 a i j c) k
+      (adds-as (ap (λ (x : ℕ). nodeRecord 2 n 0 ++ nodeRecord 3 x 0) q) refl (adds-then refl symbol f))
 
 -- there is a number for its last node
 module _ (next : ℕ) where
@@ -99,6 +101,35 @@ module _ (kind i behind : ℕ) where
   empty-one e f =
       let z = eq-eqb behind i e in
       adds-as (sym (ap (λ (s : Bool). cond s (nodeRecord kind 0 0) []) z)) (sym (ap (λ (s : Bool). cond s 1 0) z)) f
+
+-- what the end of each group adds
+module _ {g : Group} (i behind : ℕ) where
+  ends-as : {h : Group} {k : ℕ} {a b : List ℕ} → g ≡ h → Adds (endRecords h i behind) (endNodes h i behind) a behind k b
+      → Adds (endRecords g i behind) (endNodes g i behind) a behind k b
+  ends-as {h} {k} {a} {b} e f = subst⁻¹ (λ (x : Group). Adds (endRecords x i behind) (endNodes x i behind) a behind k b) e f
+
+  module _ {k : ℕ} {a b : List ℕ} where
+    pub end-and : g ≡ group.And → Adds (emptyRecords (emptyKind And) i behind) (emptyNodes i behind) a behind k b
+        → Adds (endRecords g i behind) (endNodes g i behind) a behind k b
+    end-and e f = ends-as e f
+
+    pub end-or : g ≡ group.Or → Adds (emptyRecords (emptyKind Or) i behind) (emptyNodes i behind) a behind k b
+        → Adds (endRecords g i behind) (endNodes g i behind) a behind k b
+    end-or e f = ends-as e f
+
+    pub end-not : g ≡ group.Not → Adds (nodeRecord 3 (behind - 1) 0) 1 a behind k b
+        → Adds (endRecords g i behind) (endNodes g i behind) a behind k b
+    end-not e f = ends-as e f
+
+  module _ (l : List ℕ) where
+    pub end-one : g ≡ group.One → Adds (endRecords g i behind) (endNodes g i behind) l behind behind l
+    end-one e = ends-as e (adds-none l behind)
+
+    pub end-whole : g ≡ group.Whole → Adds (endRecords g i behind) (endNodes g i behind) l behind behind l
+    end-whole e = ends-as e (adds-none l behind)
+
+pub child-of-not : {g : Group} (behind : ℕ) → g ≡ group.Not → HasChild g behind → 0 < behind
+child-of-not behind e h = subst (λ (x : Group). HasChild x behind) e h
 
 -- the records of two formulas that are joined
 joined-records : (g : Group) (i : ℕ) (s t : Tree) (behind after : ℕ) → behind ≡ i + sizeOf s → after ≡ behind + sizeOf t

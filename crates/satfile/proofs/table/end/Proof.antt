@@ -1,102 +1,67 @@
+-- `satfile::table::end` meets its contract: each group adds what the definition says. Assumes nothing.
+use mathlib.Core.Path.{sym}
+use native.Mathlib.Omega.{arith}
 use borrow.Author.Needs.{needs}
+use Rattle.satfile.proofs.Laws.Stores.{end-and, end-or, end-one, end-not, end-whole, child-of-not}
 use Rattle.satfile.proofs.table.end.Statement.{statement}
 use Rattle.satfile.proofs.table.end.Tie as tie
-use Rattle.satfile.proofs.table.end.Reads as reads
-use Rattle.satfile.proofs.table.end.Lts as lts
-use Rattle.satfile.proofs.table.empty.Reads as empty-reads
-use Rattle.satfile.proofs.table.put.Reads as put-reads
 
--- src/table.rt:92:29
-enum-told : tie.Need-enum-told
-enum-told c = search needs
+all : tie.Need-returns
+all c =
+    let call = c .before .before in
+    let told = call .before .before in
+    let a = told .before .before .before .args in
+    end-and (a .next) (a .behind) (told .enum-told .given .1) (call .empty .ensures)
 
--- src/table.rt:92:23
-empty-requires : tie.Need-empty-requires
-empty-requires c κs = search needs
+any : tie.Need-returns-2
+any c =
+    let call = c .before .before in
+    let told = call .before .before in
+    let a = told .before .before .before .args in
+    end-or (a .next) (a .behind) (told .enum-told2 .given .1) (call .empty2 .ensures)
 
--- src/table.rt:93:28
-enum-told-2 : tie.Need-enum-told-2
-enum-told-2 c = search needs
+one : tie.Need-returns-3
+one c =
+    let a = c .before .before .before .args in
+    end-one (a .next) (a .behind) (a .table .now) (c .enum-told3 .given .1)
 
--- src/table.rt:93:22
-empty-requires-2 : tie.Need-empty-requires-2
-empty-requires-2 c κs = search needs
+child : tie.Need-sub-put
+child c =
+    let told = c .before in
+    let s = told .before .before .before in
+    omega (arith, child-of-not (s .args .behind) (told .enum-told4 .given .1) (s .pre .child))
 
--- src/table.rt:94:23
-enum-told-3 : tie.Need-enum-told-3
-enum-told-3 c = search needs
+negated : tie.Need-returns-4
+negated c =
+    let call = c .before .before in
+    let told = call .before .before in
+    let a = told .before .before .before .args in
+    end-not (a .next) (a .behind) (told .enum-told4 .given .1) (call .put .ensures)
 
--- src/table.rt:96:17
-enum-told-4 : tie.Need-enum-told-4
-enum-told-4 c = search needs
-
--- src/table.rt:96:37
-sub-put : tie.Need-sub-put
-sub-put c = ?
-
--- src/table.rt:96:13
-put-requires : tie.Need-put-requires
-put-requires c κs = search needs
-
--- src/table.rt:97:13
-add-result : tie.Need-add-result
-add-result c = search needs
-
--- src/table.rt:99:25
-enum-told-5 : tie.Need-enum-told-5
-enum-told-5 c = search needs
-
--- src/table.rt:87:1
-same-length : tie.Need-same-length
-same-length c = search needs
-
--- src/table.rt:87:1
-returns : tie.Need-returns
-returns c = ?
-
--- src/table.rt:87:1
-same-length-2 : tie.Need-same-length-2
-same-length-2 c = search needs
-
--- src/table.rt:87:1
-returns-2 : tie.Need-returns-2
-returns-2 c = ?
-
--- src/table.rt:87:1
-returns-3 : tie.Need-returns-3
-returns-3 c = ?
-
--- src/table.rt:87:1
-same-length-3 : tie.Need-same-length-3
-same-length-3 c = search needs
-
--- src/table.rt:87:1
-returns-4 : tie.Need-returns-4
-returns-4 c = ?
-
--- src/table.rt:87:1
-returns-5 : tie.Need-returns-5
-returns-5 c = ?
+whole : tie.Need-returns-5
+whole c =
+    let a = c .before .before .before .args in
+    end-whole (a .next) (a .behind) (a .table .now) (c .enum-told5 .given .1)
 
 pub end-spec : {M : Type 1} → statement M
 end-spec =
     tie.close
     (tie.spec
-    enum-told
-    empty-requires
-    enum-told-2
-    empty-requires-2
-    enum-told-3
-    enum-told-4
-    sub-put
-    put-requires
-    add-result
-    enum-told-5
-    same-length
-    returns
-    same-length-2
-    returns-2
-    returns-3
-    same-length-3
-    returns-4
-    returns-5)
+    (λ c. search needs)
+    (λ c κs. search needs)
+    (λ c. search needs)
+    (λ c κs. search needs)
+    (λ c. search needs)
+    (λ c. search needs)
+    child
+    (λ c κs. search needs)
+    (λ c. search needs)
+    (λ c. search needs)
+    (λ c. search needs)
+    all
+    (λ c. search needs)
+    any
+    one
+    (λ c. search needs)
+    negated
+    whole)

@@ -1,4 +1,5 @@
 -- `satfile::table::leaf` meets its contract: a symbol, and a not behind it. Assumes nothing.
+use native.Mathlib.Omega.{arith}
 use borrow.Author.Needs.{needs}
 use borrow.Author.Tests.{not-true, not-false}
 use Rattle.satfile.proofs.Laws.Stores.{adds-symbol, adds-negated, roomy-one, roomy-two}
@@ -22,20 +23,20 @@ negated c =
     let else = second .before .before in
     let a = start-of (else .before) .args in
     adds-negated (a .value) (a .next) (put-of (else .before) .put .ensures) (a .negated) (not-false (a .negated) (else .if1 .left))
-    ?
+    (second .put2 .ensures)
 
 pub leaf-spec : {M : Type 1} → statement M
 leaf-spec =
     tie.close
     (tie.spec
     (λ c κs. search needs)
-    (λ c. let s = start-of (c .before) in roomy-one (s .args .next) (s .args .negated) (s .pre))
+    (λ c. let s = start-of (c .before) in omega (arith, roomy-one (s .args .next) (s .args .negated) (s .pre)))
     (λ c. search needs)
     plain
-    (λ c. let s = start-of (c .before .before) in roomy-one (s .args .next) (s .args .negated) (s .pre))
+    (λ c. let s = start-of (c .before .before) in omega (arith, roomy-one (s .args .next) (s .args .negated) (s .pre)))
     (λ c κs. search needs)
     (λ c. let else = c .before .before .before .before in
     let s = start-of (else .before) in
-    roomy-two (s .args .next) (s .args .negated) (not-false (s .args .negated) (else .if1 .left)) (s .pre))
+    omega (arith, roomy-two (s .args .next) (s .args .negated) (not-false (s .args .negated) (else .if1 .left)) (s .pre)))
     (λ c. search needs)
     negated)
