@@ -2,3 +2,4 @@
 pub mod Records
 pub mod Rests
 pub mod Stores
+pub mod Tells

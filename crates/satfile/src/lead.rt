@@ -1,9 +1,10 @@
 // How a formula begins: with a symbol, or with a parenthesis that is opened.
+ghost use mathlib.Core.Bool.{true};
 ghost use mathlib.Core.Path.{_≡_};
 ghost use Prim.Native.Nat.{_+_, _≤_, _<_};
 ghost use lib.ListN.{length, drop};
 ghost use Rattle.satfile.specs.Inner.Reads.{fills, negates, digitsFrom, numberIn, oneOf, operandIn, openIn, beginIn};
-ghost use Rattle.satfile.specs.Inner.Parts.{Skipped, TellsNumber, TellsBegin, leafNodes, oneDigit};
+ghost use Rattle.satfile.specs.Inner.Parts.{Skipped, TellsNumber, TellsBegin, leafNodes, leafBytes};
 use classes::is_space;
 use text::number::Number;
 use text::number::digit_of;
@@ -150,7 +151,7 @@ fn one_of(negated: bool) -> Group
 // A number, or the parenthesis of one formula; negated or not.
 fn operand(text: &[u8], at: usize, depth: u32, options: u32, negated: bool) -> Lead
     requires { ⌜ at ≤ length (now text) ⌝ }
-    ensures { λ r. ⌜ TellsBegin oneDigit (now (text .entry)) at depth (operandIn options depth negated (drop at (now (text .entry)))) r ⌝ }
+    ensures { λ r. ⌜ TellsBegin (leafBytes negated) (now (text .entry)) at depth (operandIn options depth negated (drop at (now (text .entry)))) r ⌝ }
 {
     if text.len() <= at {
         return Lead::Wrong { place: at };
@@ -177,7 +178,7 @@ fn operand(text: &[u8], at: usize, depth: u32, options: u32, negated: bool) -> L
 // The parenthesis of a list, behind its `*` or `+`.
 fn list(text: &[u8], at: usize, depth: u32, group: Group) -> Lead
     requires { ⌜ (at ≤ length (now text)) × (0 < depth) ⌝ }
-    ensures { λ r. ⌜ TellsBegin oneDigit (now (text .entry)) at depth (openIn group (drop at (now (text .entry)))) r ⌝ }
+    ensures { λ r. ⌜ TellsBegin (leafBytes true) (now (text .entry)) at depth (openIn group (drop at (now (text .entry)))) r ⌝ }
 {
     if text.len() <= at {
         return Lead::Wrong { place: at };

@@ -38,12 +38,12 @@ abbrev pub TellsNumber : List ℕ → ℕ → Out ℕ → Numeral → Type 0
 TellsNumber text from o (numeral.Is value at) = ReadTo text o value from at
 TellsNumber text from o (numeral.Wrong place) = WrongAt text o place
 
--- the nodes of a symbol, negated or not, and the digits that it has at least
+-- the nodes of a symbol, negated or not. It has as many bytes, but of a negated one the first is its `-`
 abbrev pub leafNodes : Bool → ℕ
 leafNodes negated = cond negated 2 1
 
-abbrev pub oneDigit : Bool → ℕ
-oneDigit negated = 1
+abbrev pub leafBytes : Bool → Bool → ℕ
+leafBytes minus negated = cond minus 1 (leafNodes negated)
 
 -- what the beginning of a formula tells: a symbol has at least `least` bytes; a group is opened only where a parenthesis may be
 pub record OpenTo (text : List ℕ) (o : Out Begin) (g : Group) (from at d : ℕ) : Type 0 where

@@ -1,73 +1,103 @@
+-- `satfile::lead::operand` meets its contract: a number, or a parenthesis that can be filled. Assumes nothing.
+use mathlib.Core.Path.{_≡_, sym, ap, _∙_}
+use mathlib.Core.List.{List}
+use Prim.Native.Nat.{ℕ, _+_}
+use native.Mathlib.Omega.{arith}
 use borrow.Author.Needs.{needs}
+use borrow.Author.Tests.{not-true, not-false}
+use lib.ListN.{drop}
+use Rattle.satfile.specs.Inner.Reads.{Out, Read, Begin, Open, operandIn, andThen, Leaf, numberIn}
+use Rattle.satfile.specs.declared.lead.Group.{Group}
+use Rattle.satfile.proofs.Laws.Rests.{operand-end, operand-number, operand-no, operand-open, fills-deep}
+use Rattle.satfile.proofs.Laws.Tells.{number-is, number-wrong, leaf-to, leaf-wrong}
 use Rattle.satfile.proofs.lead.operand.Statement.{statement}
 use Rattle.satfile.proofs.lead.operand.Tie as tie
-use Rattle.satfile.proofs.lead.operand.Reads as reads
-use Rattle.satfile.proofs.lead.operand.Lts as lts
-use Rattle.satfile.proofs.lead.is_filled.Reads as is-filled-reads
-use Rattle.satfile.proofs.lead.number.Reads as number-reads
-use Rattle.satfile.proofs.lead.one_of.Reads as one-of-reads
 
--- src/lead.rt:156:9
-returns : tie.Need-returns
-returns c = ?
+text-ends : tie.Need-returns
+text-ends c =
+    let s = c .before .before in
+    let a = s .args in
+    record { out = operand-end (a .text .now) (a .at) (a .options) (a .depth) (a .negated) (c .if1 .taken); within = s .pre }
 
--- src/lead.rt:158:8
-shared-slice-read-if2 : tie.Need-shared-slice-read-if2
-shared-slice-read-if2 c = search needs
+-- a number
+abbrev if2-of : tie.After-number → tie.Then2
+if2-of c = c .before
 
--- src/lead.rt:159:22
-number-requires : tie.Need-number-requires
-number-requires c κs = search needs
+abbrev if1-of : tie.Then2 → tie.Else1
+if1-of c = c .before .before
 
--- src/lead.rt:160:27
-enum-known-value : tie.Need-enum-known-value
-enum-known-value c = search needs
+abbrev start-of : tie.Else1 → tie.Start
+start-of c = c .before .before
 
--- src/lead.rt:165:30
-enum-known-place : tie.Need-enum-known-place
-enum-known-place c = search needs
+by-number : (c : tie.Then2) → let a = start-of (if1-of c) .args in
+    operandIn (a .options) (a .depth) (a .negated) (drop (a .at) (a .text .now))
+    ≡ andThen (λ n r. Read (Leaf n (a .negated)) r) (numberIn (a .options) (drop (a .at) (a .text .now)))
+by-number c =
+    let a = start-of (if1-of c) .args in
+    operand-number (a .text .now) (a .at) (a .options) (a .depth) (a .negated) (if1-of c .if1 .left) (c .if2 .taken)
 
--- src/lead.rt:159:9
-returns-2 : tie.Need-returns-2
-returns-2 c = ?
+symbol : tie.Need-returns-2
+symbol c =
+    let value = c .before in
+    let call = value .before .before in
+    let a = start-of (if1-of (if2-of call)) .args in
+    leaf-to (a .negated) (by-number (if2-of call)) (a .at)
+    (number-is (a .text .now) (a .at + 1) (call .number .result) (call .number .ensures) _ _ (value .value .given .1))
 
--- src/lead.rt:159:9
-returns-3 : tie.Need-returns-3
-returns-3 c = ?
+no-symbol : tie.Need-returns-3
+no-symbol c =
+    let place = c .before in
+    let call = place .before .before in
+    let a = start-of (if1-of (if2-of call)) .args in
+    leaf-wrong (a .negated) (by-number (if2-of call))
+    (number-wrong (a .text .now) (a .at + 1) (call .number .result) (call .number .ensures) _ (place .place .given .1))
 
--- src/lead.rt:168:9
-is-filled-requires : tie.Need-is-filled-requires
-is-filled-requires c κs = search needs
+-- a parenthesis
+unfilled : tie.Need-returns-4
+unfilled c =
+    let fill = c .before in
+    let if2 = fill .before in
+    let if1 = if2 .before .before in
+    let s = start-of if1 in
+    let a = s .args in
+    record {
+      out = operand-no (a .text .now) (a .at) (a .options) (a .depth) (a .negated) (if1 .if1 .left) (if2 .if2 .left)
+          (sym (fill .is-filled .ensures) ∙ not-true (fill .is-filled .result) (c .if3 .taken));
+      within = s .pre;
+    }
 
--- src/lead.rt:169:9
-returns-4 : tie.Need-returns-4
-returns-4 c = ?
-
--- src/lead.rt:172:16
-one-of-requires : tie.Need-one-of-requires
-one-of-requires c κs = search needs
-
--- src/lead.rt:173:13
-add-t9 : tie.Need-add-t9
-add-t9 c = search needs
-
--- src/lead.rt:151:1
-returns-5 : tie.Need-returns-5
-returns-5 c = ?
+opened : tie.Need-returns-5
+opened c =
+    let if3 = c .before in
+    let fill = if3 .before in
+    let if2 = fill .before in
+    let if1 = if2 .before .before in
+    let a = start-of if1 .args in
+    let full = sym (fill .is-filled .ensures) ∙ not-false (fill .is-filled .result) (if3 .if3 .left) in
+    record {
+      to = record {
+        out =
+            operand-open (a .text .now) (a .at) (a .options) (a .depth) (a .negated) (if1 .if1 .left) (if2 .if2 .left) full
+            ∙ ap (λ (g : Group). Read (Open g) (drop (a .at + 1) (a .text .now))) (sym (c .one-of .ensures));
+        onward = omega arith;
+        within = omega (arith, if1 .if1 .left);
+      };
+      deep = fills-deep (a .options) (a .depth) full;
+    }
 
 pub operand-spec : {M : Type 1} → statement M
 operand-spec =
     tie.close
     (tie.spec
-    returns
-    shared-slice-read-if2
-    number-requires
-    enum-known-value
-    enum-known-place
-    returns-2
-    returns-3
-    is-filled-requires
-    returns-4
-    one-of-requires
-    add-t9
-    returns-5)
+    text-ends
+    (λ c. search needs)
+    (λ c κs. search needs)
+    (λ c. search needs)
+    (λ c. search needs)
+    symbol
+    no-symbol
+    (λ c κs. search needs)
+    unfilled
+    (λ c κs. search needs)
+    (λ c. search needs)
+    opened)
