@@ -1,9 +1,11 @@
 // Formulas and lists, which hold each other: the depth that is left falls.
+ghost use mathlib.Core.Bool.{cond, not, _||_};
 ghost use mathlib.Core.Path.{_≡_};
-ghost use Prim.Native.Nat.{_≤_};
+ghost use Prim.Native.Nat.{_+_, _≤_};
+ghost use lib.Dec.{eqb};
 ghost use lib.ListN.{length, drop};
 ghost use Rattle.satfile.specs.Inner.Reads.{isMany, isWhole, endsAt, isParted, formulaIn, listIn};
-ghost use Rattle.satfile.specs.Inner.Parts.{Tells, Readable};
+ghost use Rattle.satfile.specs.Inner.Parts.{Tells, Readable, Passing};
 use crate::lead::Group;
 use crate::lead::Lead;
 use crate::lead::begin;
@@ -79,6 +81,37 @@ fn is_parted(text: &[u8], at: usize) -> bool
     is_space(byte)
 }
 
+// Whether a group takes one more member: a list does, and any other group its first.
+fn is_open(many: bool, next: usize, behind: usize) -> bool
+    ensures { λ r. ⌜ r ≡ (many || eqb behind next) ⌝ }
+{
+    if many {
+        return true;
+    }
+    behind == next
+}
+
+// Whether a group has all its members: a list does, and any other group behind its first.
+fn is_full(many: bool, next: usize, behind: usize) -> bool
+    ensures { λ r. ⌜ r ≡ (many || not (eqb behind next)) ⌝ }
+{
+    if many {
+        return true;
+    }
+    behind != next
+}
+
+// The place behind the end of a group.
+fn past(group: Group, at: usize) -> usize
+    requires { ⌜ Passing group at ⌝ }
+    ensures { λ r. ⌜ r ≡ cond (isWhole group) at (at + 1) ⌝ }
+{
+    if is_whole(group) {
+        return at;
+    }
+    at + 1
+}
+
 // Reads a formula, where `depth` parentheses may still be opened.
 fn formula(text: &[u8], at: usize, next: usize, depth: u32, options: u32, table: &mut [u8]) -> Part
     requires { ⌜ Readable (now text) at next ⌝ }
@@ -122,11 +155,10 @@ pub fn list(
         (now (table .exit)) ⌝ }
 {
     let many = is_many(group);
-    let whole = is_whole(group);
     let mut i = skip(text, at);
     let mut behind = next;
     while !is_end(text, i, group) {
-        if !many && behind != next {
+        if !is_open(many, next, behind) {
             return Part::Wrong { place: i };
         }
         match formula(text, i, behind, depth, options, table) {
@@ -143,12 +175,12 @@ pub fn list(
             Part::Wrong { place } => return Part::Wrong { place },
         }
     }
-    if !many && behind == next {
+    if !is_full(many, next, behind) {
         return Part::Wrong { place: i };
     }
-    let behind_it = if whole { i } else { i + 1 };
+    let after = past(group, i);
     Part::Done {
-        at: behind_it,
+        at: after,
         next: end(table, group, next, behind),
     }
 }

@@ -3,10 +3,10 @@
 use mathlib.Core.Path.{_≡_}
 use mathlib.Core.Bool.{Bool, true, false, cond}
 use mathlib.Core.List.{List}
-use Prim.Native.Nat.{ℕ, _+_, _≤_, _<_}
+use Prim.Native.Nat.{ℕ, _+_, _^_, _≤_, _<_}
 use lib.ListN.{length, drop}
 use Rattle.satfile.specs.Trees.{Tree, sizeOf, recordsFrom}
-use Rattle.satfile.specs.Inner.Reads.{Out, Read, Bad, skipped, Begin, Leaf, Open}
+use Rattle.satfile.specs.Inner.Reads.{Out, Read, Bad, skipped, Begin, Leaf, Open, isWhole}
 use Rattle.satfile.specs.Inner.Stores.{Adds}
 use Rattle.satfile.specs.declared.lead.Group.{Group}
 use Rattle.satfile.specs.declared.lead.Numeral.{Numeral}
@@ -75,3 +75,7 @@ Tells text before from i o (part.Wrong place) after = WrongTo text before o plac
 pub record Readable (text : List ℕ) (at next : ℕ) : Type 0 where
   pub within : at ≤ length text
   pub few : next ≤ at
+
+-- what passing the end of a group asks: a `)` can be passed
+pub record Passing (g : Group) (at : ℕ) : Type 0 where
+  pub last : isWhole g ≡ false → at + 1 < 2 ^ 64

@@ -80,7 +80,7 @@ goes c =
       omega (arith, test .loop-test .taken),
       sym (digits-on (a .text .now) (loop .loop .i) (a .most) (loop .loop .value) (test .loop-test .taken) (more .more .given .0 .0)
           (is-one grown) (grew grown ∙ more .more .given .1))
-      ∙ loop .loop .inv .2,
+          ∙ loop .loop .inv .2,
     )
 
 ends : tie.Need-returns-3 Inv μ

@@ -42,7 +42,7 @@ more c =
     number-as (s .args .text .now) (s .args .at + 1) (c .digits .result)
     (ap (λ (x : ℕ). digitsFrom (s .args .most) x (drop (s .args .at + 1) (s .args .text .now))) (digit .digit-of .ensures)
     ∙ sym (number-first (s .args .text .now) (s .args .at) (s .args .most) (s .pre) (if1 .if1 .left) (if2 .if2 .left)
-          (omega (arith, digit .digit-of .ensures, if3 .if3 .left))))
+    (omega (arith, digit .digit-of .ensures, if3 .if3 .left))))
     (c .digits .ensures)
 
 pub number-spec : {M : Type 1} → statement M

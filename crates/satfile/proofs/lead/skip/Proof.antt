@@ -25,7 +25,7 @@ stops c =
     record {
       rest =
           sym (skipped-stop (loop .before .before .args .text .now) (loop .loop .i) (test .loop-test .taken)
-              (sym (space .is-space .ensures) ∙ not-true (space .is-space .result) (c .if1 .taken)))
+          (sym (space .is-space .ensures) ∙ not-true (space .is-space .result) (c .if1 .taken)))
           ∙ loop .loop .inv .2;
       onward = loop .loop .inv .0;
       within = loop .loop .inv .1;
@@ -40,7 +40,7 @@ goes c =
       omega (arith, test .loop-test .taken),
       sym (skipped-on (loop .before .before .args .text .now) (loop .loop .i) (test .loop-test .taken)
           (sym (space .is-space .ensures) ∙ not-false (space .is-space .result) (c .if1 .left)))
-      ∙ loop .loop .inv .2,
+          ∙ loop .loop .inv .2,
     )
 
 ends : tie.Need-returns-2 Inv μ
