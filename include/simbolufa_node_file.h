@@ -312,7 +312,7 @@ static inline const char *simbolufa_text_fault(const uint8_t *text, size_t lengt
     part.at = 0;
     part.end = length;
     if (line <= 1 && simbolufa_has_sat_header(text, length))
-        return "it looks like a p sat file, which the nightly pass reads, and this is no node file";
+        return "it looks like a p sat file and no node file: the nightly pass reads such files";
     if (length > 65536)
         return "the node file is over 65,536 bytes";
     if (length == 0)

@@ -89,6 +89,7 @@ static inline const char *simbolufa_header_fault(struct simbolufa_text_part line
     struct simbolufa_text_part before = line;
     struct simbolufa_text_part word = line;
     struct simbolufa_sat_header header;
+    int is_sat;
     before.end = place;
     header = simbolufa_read_header(before);
     word.at = word.at < word.end ? word.at + 1 : word.end;
@@ -100,11 +101,12 @@ static inline const char *simbolufa_header_fault(struct simbolufa_text_part line
         return "before the header stand only lines that begin with c";
     if (byte == '\r')
         return "the header has a CR, and its line ends with LF alone";
-    if (!header.is_parted && (header.words == 1 || (header.words == 2 && simbolufa_is_digit(byte))))
+    is_sat = simbolufa_is_word(word, "sat", 0);
+    if (!header.is_parted && (header.words == 1 || (header.words == 2 && is_sat && simbolufa_is_digit(byte))))
         return "a space or a tab is missing between p, sat and the option count";
     if (header.words < 3 && simbolufa_is_word(word, "cnf", 0))
         return "the header is p cnf, so the text is clauses and no formula";
-    if (header.words < 3 && !simbolufa_is_word(word, "sat", 0))
+    if (header.words < 3 && !is_sat)
         return "the word behind p is not sat, in small letters";
     if (header.words < 3)
         return "the option count is missing behind p sat, or is no number";

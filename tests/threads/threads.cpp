@@ -49,6 +49,8 @@ struct Guard {
     Bytes set;
     Bytes clauses;
     std::string text;
+    // The guard as a p sat text, or another where it has nodes that such a text has not.
+    std::string sat;
     std::string option_names;
     std::string helper_names;
     // Where the clauses come from.
@@ -116,6 +118,9 @@ Told ask(const Guard &guard, uint32_t allowance)
     told.add(simbolufa::write_dimacs(guard.clauses, 1, text));
     told.add(simbolufa::read_dimacs(guard.text, clauses), clauses);
     told.add(simbolufa::read_dimacs(guard.text.substr(1), clauses));
+    Bytes table(simbolufa::longest_table, 9);
+    told.add(simbolufa::read_sat(guard.sat, table), table);
+    told.add(simbolufa::read_sat(guard.sat.substr(allowance % 4 + 1), table));
     return told;
 }
 
