@@ -1,6 +1,6 @@
 // Calls all entries from 16 threads at once, and compares what each thread is told with what one thread was told before.
 //
-// All threads lend the same tables, sets, clause bytes, names and texts to be read, and each lends buffers of its own to
+// All threads lend the same tables, sets, clause bytes, names and texts of both kinds to be read, and each lends buffers of its own to
 // be written. With the word `race` two threads lend one buffer to be written, and with `past` a buffer is lent as longer
 // than it is: a sanitizer that looks into the library must see both.
 
@@ -49,7 +49,7 @@ struct Guard {
     Bytes set;
     Bytes clauses;
     std::string text;
-    // The guard as a p sat text, or another where it has nodes that such a text has not.
+    // A p sat text, which is of another guard.
     std::string sat;
     std::string option_names;
     std::string helper_names;
@@ -124,6 +124,17 @@ Told ask(const Guard &guard, uint32_t allowance)
     return told;
 }
 
+// A p sat text: a list of so many options, some of them negated and some in a list of their own.
+std::string sat_of(size_t members)
+{
+    std::string text = "c a guard\np sat " + std::to_string(options) + "\n*(";
+    for (size_t member = 1; member <= members; member++) {
+        const std::string option = std::to_string(1 + member % options);
+        text += member % 3 == 0 ? " +(" + option + " -(" + option + "))" : (member % 2 == 0 ? " -" : " ") + option;
+    }
+    return text + ")\n";
+}
+
 // A name for each of so many variables.
 std::string names_of(char letter, size_t count)
 {
@@ -148,6 +159,7 @@ std::vector<Guard> guards()
         if (!simbolufa::convert(guard.table, options, guard.set, guard.clauses))
             continue;
         guard.text.resize(simbolufa::text_bytes(guard.clauses, 2000));
+        guard.sat = sat_of(nodes);
         guard.option_names = names_of('o', options);
         guard.helper_names = names_of('h', static_cast<size_t>(std::count(guard.set.begin(), guard.set.end(), 1)));
         if (simbolufa::write_dimacs(guard.clauses, 2000, guard.text) &&
