@@ -15,8 +15,12 @@ constexpr size_t longest_kept = longest_node_file + 1;
 
 void GuardText::add(std::string_view part)
 {
-    for (size_t at = 0; at < part.size() && !simbolufa_is_decided(first_lines); at++)
+    for (size_t at = 0; at < part.size() && !simbolufa_is_decided(first_lines); at++) {
+        // A comment is passed over at once.
+        if (first_lines == SIMBOLUFA_IN_COMMENT)
+            at = std::min(part.find('\n', at), part.size() - 1);
         first_lines = simbolufa_look(first_lines, static_cast<uint8_t>(part[at]));
+    }
     length += part.size();
     lines += static_cast<uint64_t>(std::count(part.begin(), part.end(), '\n'));
     // As long as it may be a p sat text it is kept as one.
