@@ -106,9 +106,9 @@
  *     +(LIST)       one of them              the same with kind 5
  *
  *   A list has any number of formulas, parted by one or more of space, tab, CR and LF. The same may stand
- *   behind each `(` and before each `)`, and nowhere else: nothing stands between `-`, `*` or `+` and what it is
- *   put before. A list of one formula is that formula. The empty lists `*()` and `+()` are a node of kind 1 and
- *   one of kind 0. Every symbol has a node wherever it occurs. The last node is the root.
+ *   behind each `(` and before each `)`. Nothing stands between `-`, `*` or `+` and what it is put before. A list
+ *   of one formula is that formula. The empty lists `*()` and `+()` are a node of kind 1 and one of kind 0. Every
+ *   symbol has a node wherever it occurs. The last node is the root.
  *
  *   Numbers have no leading zero. V is 0 to 32,000. At most 64 parentheses are open at once. The text may have
  *   any number of nodes, and a table has 1,024 at most. So `*(1 -2 3)` with V = 3 is the table s1, s2, not node 1,

@@ -6,6 +6,7 @@ of it.
 """
 
 import random
+import re
 
 from node_files import node_file
 
@@ -252,7 +253,7 @@ TRUE = {
     HEADER_ENDS: lambda at: at.is_end and at.is_header and at.header.startswith(b"p"),
     BEFORE_HEADER: lambda at: at.is_header and at.byte not in (b"", b"p", b"c") and not at.right,
     HEADER_CR: lambda at: at.is_header and at.byte == b"\r",
-    HEADER_SPACE: lambda at: at.is_header and at.right in (b"p", *(b"p%ssat" % gap for gap in (b" ", b"\t", b"  "))) and at.byte not in BLANKS,
+    HEADER_SPACE: lambda at: at.is_header and re.fullmatch(rb"p([ \t]+sat)?", at.right) and at.byte not in BLANKS,
     CNF: lambda at: at.is_header and at.header.split()[1:2] == [b"cnf"],
     OTHER_WORD: lambda at: at.is_header and at.header.split()[1:2] != [b"sat"],
     NO_COUNT: lambda at: at.is_header and at.right.split() == [b"p", b"sat"] and not at.byte.isdigit(),
@@ -445,7 +446,8 @@ def drawn_formula(drawn, options, depth):
 
 
 def drawn_text(drawn):
-    comments = b"".join(drawn.choice((b"c\n", b"c a guard\n", b"c p sat 9\r\n", b"c\0\xff\n")) for _ in range(drawn.choice((0, 0, 1, 2))))
+    lines = (b"c\n", b"c a guard\n", b"c p sat 9\r\n", b"c\0\xff\n")
+    comments = b"".join(drawn.choice(lines) for _ in range(drawn.choice((0, 0, 1, 2))))
     options = drawn.choice((0, 1, 2, 3, 9, 10, 40, 32_000))
     header = b"p" + drawn.choice((b" ", b"\t", b"  ")) + b"sat " + b"%d" % options + drawn.choice((b"", b" ", b"\t")) + b"\n"
     return comments + header + drawn_space(drawn) + drawn_formula(drawn, options, drawn.randrange(5)) + drawn_space(drawn)

@@ -1,6 +1,6 @@
 // Calls all entries from 16 threads at once, and compares what each thread is told with what one thread was told before.
 //
-// All threads lend the same tables, sets, clause bytes, names and texts of both kinds to be read, and each lends buffers of its own to
+// All threads lend the same tables, sets, clause bytes, names and texts to be read, and each lends buffers of its own to
 // be written. With the word `race` two threads lend one buffer to be written, and with `past` a buffer is lent as longer
 // than it is: a sanitizer that looks into the library must see both.
 

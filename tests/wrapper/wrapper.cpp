@@ -289,7 +289,8 @@ void check_sat_files()
 void check_first_lines()
 {
     const std::array<std::string_view, 6> sat = {"p ", "p\t", "p cnf 1 1\n", "c\np sat", "cp\ncp\np x", "c \r\np "};
-    const std::array<std::string_view, 10> other = {"", "c", "p", "c\n", "p\n", "psat", "c\n\np sat 1", " p sat", "P sat", "options\t1"};
+    const std::array<std::string_view, 10> other = {"",     "c",          "p",      "c\n",   "p\n",
+                                                    "psat", "c\n\np sat", " p sat", "P sat", "options\t1"};
     for (const std::string_view one : sat)
         expect("a p sat text", simbolufa_is_sat_text(simbolufa::bytes(one).data, one.size()) == 1);
     for (const std::string_view one : other)
