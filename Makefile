@@ -14,8 +14,8 @@ object := target/obj/simbolufa.o
 out := target/package
 library := $(out)/libsimbolufa.a
 command := $(out)/simbolufa
-headers := include/simbolufa.h include/simbolufa.hpp include/simbolufa_node_file.h
-pages := LICENSE docs/NODEFILE.md
+headers := include/simbolufa.h include/simbolufa.hpp include/simbolufa_node_file.h include/simbolufa_sat_file.h
+pages := LICENSE docs/NODEFILE.md docs/SATFILE.md
 package := lib/cmake/Simbolufa
 # What install puts there, below PREFIX.
 installed := bin/simbolufa bin/nightly $(headers) lib/libsimbolufa.a lib/pkgconfig/simbolufa.pc \

@@ -91,6 +91,29 @@
  *   at most 40,000 variables, 65,534 clauses and 999,999 literals. A literal is at most the declared
  *   variables in magnitude. There are exactly as many clauses as declared, and each is closed.
  *
+ * p sat text
+ *
+ *   The other DIMACS text, a formula. Any number of lines that start with `c`. Then the header line: `p`,
+ *   `sat` and V, with one or more spaces or tabs between and any number after. It ends with a newline. Then
+ *   one formula, with any number of space, tab, CR and LF before and after it. A formula is one of these:
+ *
+ *     text          meaning                  nodes, in this order
+ *     NUMBER        an option, 1 to V        one of kind 2
+ *     (FORMULA)     the formula              those of the formula
+ *     -NUMBER       not the option           one of kind 2, then one of kind 3
+ *     -(FORMULA)    not the formula          those of the formula, then one of kind 3
+ *     *(LIST)       all formulas of a list   those of the first; for each further one its own and one of kind 4
+ *     +(LIST)       one of them              the same with kind 5
+ *
+ *   A list has any number of formulas, parted by one or more of space, tab, CR and LF. The same may stand
+ *   behind each `(` and before each `)`. Nothing stands between `-`, `*` or `+` and what it is put before. A list
+ *   of one formula is that formula. The empty lists `*()` and `+()` are a node of kind 1 and one of kind 0. Every
+ *   symbol has a node wherever it occurs. The last node is the root.
+ *
+ *   Numbers have no leading zero. V is 0 to 32,000. At most 64 parentheses are open at once. The text may have
+ *   any number of nodes, and a table has 1,024 at most. So `*(1 -2 3)` with V = 3 is the table s1, s2, not node 1,
+ *   node 0 and node 2, s3, node 3 and node 4.
+ *
  * Every call
  *
  *   A buffer is lent as a pointer and its length in bytes. Buffers lent to one call must not overlap.
@@ -120,10 +143,10 @@
  * The version of this header, and of the library that is installed with it. CHANGELOG.md says what may change in which
  * version.
  */
-#define SIMBOLUFA_VERSION "2.1.1"
+#define SIMBOLUFA_VERSION "2.2.0"
 #define SIMBOLUFA_VERSION_MAJOR 2
-#define SIMBOLUFA_VERSION_MINOR 1
-#define SIMBOLUFA_VERSION_PATCH 1
+#define SIMBOLUFA_VERSION_MINOR 2
+#define SIMBOLUFA_VERSION_PATCH 0
 
 #ifdef __cplusplus
 extern "C" {
@@ -131,7 +154,7 @@ extern "C" {
 
 /*
  * What a call returns. The checks go in this order, as far as a call has them:
- * 11, 1, 2, the records, 4, 5, 6, 15, 16, 8, 9, 7. The place is 0 unless it is given here. A place over
+ * 11, 1, 2, the records, 4, 5, 6, 15, 16, 8, 9, 17, 18, 7. The place is 0 unless it is given here. A place over
  * 4,294,967,295 shows as that number.
  *
  * A wrong record is refused by 3, 12, 13 or 14, which are looked at in this order. The lowest node whose
@@ -192,7 +215,14 @@ enum simbolufa_number {
      * A list of names has a name too few or too many, an empty name, a tab, or no newline behind its last
      * name.
      */
-    SIMBOLUFA_REFUSED_NAMES = 16
+    SIMBOLUFA_REFUSED_NAMES = 16,
+    /*
+     * The p sat text is not accepted. Place: the length of the longest beginning of it that also begins some
+     * accepted text.
+     */
+    SIMBOLUFA_REFUSED_SAT_TEXT = 17,
+    /* The formula of the p sat text has more than 1,024 nodes. */
+    SIMBOLUFA_REFUSED_NODES = 18
 };
 
 /* The length of the answer part. */
@@ -311,6 +341,17 @@ uint32_t simbolufa_write_dimacs(const uint8_t *clauses, size_t clauses_len, uint
 uint32_t simbolufa_read_dimacs(const uint8_t *text, size_t text_len, uint8_t *clauses, size_t clauses_len,
                                uint8_t *answer, size_t answer_len);
 
+/*
+ * Reads p sat text into a node table. The text may be of any length.
+ *
+ * Returns 0, 17, 18, 7 or 11. On 0 the nodes are the first bytes of `table`, five for each, and the bytes after
+ * them are not changed. The values of the answer part are V and the number of nodes. The table is right for that
+ * V, so it can be given to simbolufa_choose and simbolufa_convert as it is. 5,120 bytes are enough for every
+ * text. Where a text only ends too early, the place of 17 is its length.
+ */
+uint32_t simbolufa_read_sat(const uint8_t *text, size_t text_len, uint8_t *table, size_t table_len,
+                            uint8_t *answer, size_t answer_len);
+
 /* Whether a number is the refusal of a record: 3, 12, 13 or 14. Then the place is a node. */
 static inline int simbolufa_is_record_refusal(uint32_t number)
 {
@@ -327,7 +368,8 @@ static inline int simbolufa_is_record_refusal(uint32_t number)
 
 /*
  * What a number says, in words. They begin with a small letter and end with no full stop, so that they can
- * stand behind a place. simbolufa_node_file.h has more words for node files.
+ * stand behind a place. simbolufa_node_file.h has more words for node files, and simbolufa_sat_file.h for p sat
+ * texts.
  */
 static inline const char *simbolufa_sentence(uint32_t number)
 {
@@ -366,6 +408,10 @@ static inline const char *simbolufa_sentence(uint32_t number)
         return "there is no clause of this number";
     case SIMBOLUFA_REFUSED_NAMES:
         return "a list of names has a name too few or too many, an empty name, a tab, or no newline at its end";
+    case SIMBOLUFA_REFUSED_SAT_TEXT:
+        return "the p sat text is not accepted";
+    case SIMBOLUFA_REFUSED_NODES:
+        return "the formula has more than 1,024 nodes";
     default:
         return "there is no such number";
     }
@@ -376,9 +422,9 @@ struct simbolufa_answer {
     /* What the call returned. */
     uint32_t number;
     uint32_t place;
-    /* Variables, renamed nodes, or the clause total of a measure; 0 for a check. */
+    /* Variables, renamed nodes, the clause total of a measure, or V of a p sat text; 0 for a check. */
     uint32_t first;
-    /* Clauses, a clause total, or the literal total of a measure; 0 for a check. */
+    /* Clauses, a clause total, the literal total of a measure, or the nodes of a p sat text; 0 for a check. */
     uint32_t second;
 };
 

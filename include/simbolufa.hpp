@@ -1,9 +1,9 @@
 /*
  * Simbolufa for C++17: the entries of simbolufa.h with views in place of pointers, and one answer.
  *
- * simbolufa.h says what each call does, what it refuses and how much stack it takes. Only `origin_line` and
- * `origin_lines` allocate: they make a text of the caller as long as it has to be. Nothing else here allocates
- * or throws, and only `together` keeps state. The answer part is on the stack of the call, so refusal 11
+ * simbolufa.h says what each call does, what it refuses and how much stack it takes. Only `origin_line`,
+ * `origin_lines` and `sat_table` allocate: they make a container of the caller as long as it has to be. Nothing
+ * else here allocates or throws, and only `together` keeps state. The answer part is on the stack of the call, so refusal 11
  * does not occur, and it overlaps no buffer of the caller.
  *
  * A guard from table to DIMACS text:
@@ -28,6 +28,13 @@
  *   std::string lines;
  *   if (told)
  *       told = simbolufa::origin_lines(table, options, set, option_names, helper_names, lines);
+ *
+ * A p sat text becomes a table, and its options are those of the answer:
+ *
+ *   std::vector<uint8_t> table;
+ *   simbolufa::answer read = simbolufa::sat_table(text, table);
+ *   if (read)
+ *       use(table, read.first);
  *
  * Guards that are solved together, such as those of a branch inside a branch, are converted by one object
  * of the class `together`. Then their clauses share the project's options and nothing else.
@@ -156,6 +163,9 @@ constexpr std::uint32_t literal_ceiling = 1000000;
 
 /* The most variables of a DIMACS text. */
 constexpr std::uint32_t most_variables = 40000;
+
+/* The bytes of the longest table: 1,024 nodes. */
+constexpr std::size_t longest_table = 5120;
 
 /*
  * What a call says: number, place and its two values, which are 0 where it refuses. It is true where nothing is refused.
@@ -415,6 +425,26 @@ inline answer read_dimacs(bytes text, room clauses) noexcept
     return detail::told([=](std::uint8_t *part, std::size_t length) {
         simbolufa_read_dimacs(text.data, text.size, clauses.data, clauses.size, part, length);
     });
+}
+
+/* Reads p sat text into a table. Values: V, nodes. A room of `longest_table` bytes is enough for every text. */
+inline answer read_sat(bytes text, room table) noexcept
+{
+    return detail::told([=](std::uint8_t *part, std::size_t length) {
+        simbolufa_read_sat(text.data, text.size, table.data, table.size, part, length);
+    });
+}
+
+/*
+ * The same as read_sat, into a std::vector or another container of bytes that can be resized. What it held before is
+ * gone: after the call it is exactly the table, or empty where the call refuses. Refusal 7 does not occur.
+ */
+template <class Table, class = detail::writable<Table>> answer sat_table(bytes text, Table &table)
+{
+    table.resize(longest_table);
+    const answer told = read_sat(text, room(table));
+    table.resize(5 * static_cast<std::size_t>(told.second));
+    return told;
 }
 
 } // namespace simbolufa

@@ -1,5 +1,6 @@
 /*
- * Says in words what is wrong with a node file that is refused, and in which line.
+ * Says in words what is wrong with a node file that is refused, and in which line. It also tells node files and
+ * p sat texts apart.
  *
  * A node file is the text that the command `simbolufa` reads. docs/NODEFILE.md has its rules. Nothing here
  * allocates, keeps state, or reads a byte outside the text. The words are static strings. They begin with a
@@ -32,6 +33,68 @@ static inline uint32_t simbolufa_line_of(uint32_t number, uint32_t place)
     default:
         return 0;
     }
+}
+
+/*
+ * What a text is by its first lines. They are looked at byte by byte, so that a text may come in parts.
+ *
+ * The first line that does not begin with `c` decides. Where it begins with `p` and a space or a tab, the text is a
+ * p sat text, right or wrong. Else it is a node file, right or wrong, and so is a text without such a line.
+ */
+enum simbolufa_first_lines {
+    /* Before the first byte, or behind a comment line. */
+    SIMBOLUFA_AT_LINE,
+    /* In a line that begins with `c`. */
+    SIMBOLUFA_IN_COMMENT,
+    /* Behind a `p` that begins a line. */
+    SIMBOLUFA_BEHIND_P,
+    /* It is decided. */
+    SIMBOLUFA_IS_SAT,
+    SIMBOLUFA_IS_NODE_FILE
+};
+
+/* What it is after one more byte. */
+static inline enum simbolufa_first_lines simbolufa_look(enum simbolufa_first_lines so_far, uint8_t byte)
+{
+    switch (so_far) {
+    case SIMBOLUFA_AT_LINE:
+        return byte == 'c' ? SIMBOLUFA_IN_COMMENT : byte == 'p' ? SIMBOLUFA_BEHIND_P : SIMBOLUFA_IS_NODE_FILE;
+    case SIMBOLUFA_IN_COMMENT:
+        return byte == '\n' ? SIMBOLUFA_AT_LINE : SIMBOLUFA_IN_COMMENT;
+    case SIMBOLUFA_BEHIND_P:
+        return byte == ' ' || byte == '\t' ? SIMBOLUFA_IS_SAT : SIMBOLUFA_IS_NODE_FILE;
+    default:
+        return so_far;
+    }
+}
+
+/* Whether no further byte changes it. */
+static inline int simbolufa_is_decided(enum simbolufa_first_lines so_far)
+{
+    return so_far == SIMBOLUFA_IS_SAT || so_far == SIMBOLUFA_IS_NODE_FILE;
+}
+
+/* Whether a whole text is a p sat text, right or wrong. */
+static inline int simbolufa_is_sat_text(const uint8_t *text, size_t length)
+{
+    enum simbolufa_first_lines so_far = SIMBOLUFA_AT_LINE;
+    size_t at = 0;
+    for (; at < length && !simbolufa_is_decided(so_far); at++)
+        so_far = simbolufa_look(so_far, text[at]);
+    return so_far == SIMBOLUFA_IS_SAT;
+}
+
+/* Where the first line begins that does not begin with `c`: the length where there is none. */
+static inline size_t simbolufa_behind_comments(const uint8_t *text, size_t length)
+{
+    enum simbolufa_first_lines so_far = SIMBOLUFA_AT_LINE;
+    size_t at = 0;
+    for (; at < length; at++) {
+        so_far = simbolufa_look(so_far, text[at]);
+        if (so_far != SIMBOLUFA_AT_LINE && so_far != SIMBOLUFA_IN_COMMENT)
+            return at;
+    }
+    return length;
 }
 
 /* A part of a text: its bytes from `at` to before `end`. The functions on it serve those at the end of this file. */
@@ -163,6 +226,18 @@ static inline int simbolufa_is_number(struct simbolufa_text_part field, uint32_t
     return field.at == field.end;
 }
 
+/* Whether the header of a text is that of a p sat text, as far as its word. */
+static inline int simbolufa_has_sat_header(const uint8_t *text, size_t length)
+{
+    struct simbolufa_text_part header;
+    if (!simbolufa_is_sat_text(text, length))
+        return 0;
+    header.text = text;
+    header.at = simbolufa_behind_comments(text, length) + 1;
+    header.end = length;
+    return simbolufa_is_word(simbolufa_first_word(header), "sat", 0);
+}
+
 static inline const char *simbolufa_other_word(void)
 {
     return "the first field is not the word options, with which a node file begins";
@@ -236,6 +311,8 @@ static inline const char *simbolufa_text_fault(const uint8_t *text, size_t lengt
     part.text = text;
     part.at = 0;
     part.end = length;
+    if (line <= 1 && simbolufa_has_sat_header(text, length))
+        return "it looks like a p sat file and no node file: the nightly pass reads such files";
     if (length > 65536)
         return "the node file is over 65,536 bytes";
     if (length == 0)

@@ -1,6 +1,7 @@
 """Node files that are refused, and what the command says of them in words.
 
-REFUSED is a list of such files. damaged() makes more. is_true() tells whether words about a file are true of it: it goes by
+REFUSED is a list of such files. OTHER_FORMATS has files that the command refuses and that are p sat files, right or wrong, for
+the nightly pass. damaged() makes more. is_true() tells whether words about a file are true of it: it goes by
 the rules of a node file, and shares no code with the command.
 """
 
@@ -23,6 +24,7 @@ WORDS = {
 # What the help says of refusal 10.
 WRONG_LINE = "a line of the node file is wrong or missing, or the file is over 65,536 bytes"
 
+SAT_FILE = "it looks like a p sat file and no node file: the nightly pass reads such files"
 TOO_LONG = "the node file is over 65,536 bytes"
 EMPTY_FILE = "the node file is empty"
 ORDER_MARK = "the node file begins with a byte order mark"
@@ -74,6 +76,7 @@ class Line:
 
 
 TRUE = {
+    SAT_FILE: lambda at: at.place <= 1 and re.match(rb"(?:c[^\n]*\n)*p[ \t]+sat(?![A-Za-z])", at.text) is not None,
     TOO_LONG: lambda at: len(at.text) > 65_536 and at.place == 0,
     EMPTY_FILE: lambda at: at.text == b"",
     ORDER_MARK: lambda at: at.place == 1 and at.text.startswith((codecs.BOM_UTF8, codecs.BOM_UTF16_LE, codecs.BOM_UTF16_BE)),
@@ -257,6 +260,20 @@ REFUSED = [
     (doubled(4, 40), 5, 0, WORDS[5]),
     (doubled(5, 20), 6, 0, WORDS[6]),
     (doubled(5, 14), 7, 0, WORDS[7]),
+]
+
+OTHER_FORMATS = [
+    (b"p sat 1\n1\n", 10, 1, SAT_FILE),
+    (b"c A guard\nc\np \tsat 2\n*(1 -2)\n", 10, 1, SAT_FILE),
+    (b"p sat x\r\n1\r\n", 10, 1, SAT_FILE),
+    (b"c options\t1\n" * 9 + b"p sat", 10, 1, SAT_FILE),
+    (b"p sat 1\n1\n".ljust(65_536, b" "), 10, 1, SAT_FILE),
+    (b"p sat 1\n1\n".ljust(65_537, b" "), 10, 0, SAT_FILE),
+    (b"c a comment\n".ljust(65_000, b"c") + b"\np sat 1\n1\n" * 100, 10, 0, SAT_FILE),
+    # The header is not that of a p sat file, or the text is cut before it.
+    (b"p cnf 1 1\n1 0\n", 10, 1, NO_OPTIONS),
+    (b"p sate 1\n1\n", 10, 1, NO_OPTIONS),
+    (b"c a comment\n".ljust(65_537, b"c") + b"\np sat 1\n1\n", 10, 0, TOO_LONG),
 ]
 
 

@@ -3,8 +3,8 @@
 #include "guards.hpp"
 
 #include "file.hpp"
+#include "guard_text.hpp"
 #include "index.hpp"
-#include "node_file.hpp"
 
 #include <algorithm>
 #include <cstddef>
@@ -22,15 +22,8 @@ constexpr const char *set_name = "guards.txt";
 constexpr const char *index_name = "index.tsv";
 // It is read whole.
 constexpr size_t longest_index = size_t{256} << 20;
-// One byte more shows that a node file is too long.
-constexpr size_t longest_kept = longest_node_file + 1;
 
-uint64_t newlines_in(std::string_view text)
-{
-    return static_cast<uint64_t>(std::count(text.begin(), text.end(), '\n'));
-}
-
-// Takes the node files of a file without an index. They come as parts of any length.
+// Takes the guards of a file without an index: the p sat text, or the node files. They come as parts of any length.
 class Pieces {
 public:
     Pieces(const fs::path &path, GuardTaker &taker) : path(path.string()), taker(taker) {}
@@ -40,40 +33,37 @@ public:
         window.append(part);
         const std::string_view text = window;
         size_t start = 0;
-        for (size_t at; (at = text.find(begin, start)) != std::string_view::npos; start = at + 1) {
-            keep(text.substr(start, at + 1 - start));
-            take(true);
+        for (size_t at; !piece.is_sat() && (at = text.find(begin, start)) != std::string_view::npos; start = at + 1) {
+            piece.add(text.substr(start, at + 1 - start));
+            // A p sat text goes on to the end of the file, whatever its lines begin with.
+            if (!piece.is_sat())
+                take(true);
         }
         // The last bytes may be the first ones of `begin`.
         const size_t open = std::min(text.size() - start, begin.size() - 1);
-        keep(text.substr(start, text.size() - open - start));
+        piece.add(text.substr(start, text.size() - open - start));
         window.erase(0, text.size() - open);
     }
 
     void end()
     {
-        keep(window);
+        piece.add(window);
         take(false);
     }
 
 private:
     static constexpr std::string_view begin = "\noptions";
 
-    void keep(std::string_view part)
-    {
-        newlines += newlines_in(part);
-        piece.append(part.substr(0, longest_kept - piece.size()));
-    }
-
     void take(bool has_next)
     {
         number++;
-        if (number == 1 && !has_next)
-            taker.take({path, "", path, line, piece});
-        else
-            taker.take({path + "#" + std::to_string(number), path + ":" + std::to_string(line), path, line, piece});
-        line += newlines;
-        newlines = 0;
+        Guard guard{path, "", path, line, piece.kept(), "", piece.is_sat(), piece.is_cut()};
+        if (number > 1 || has_next) {
+            guard.name += "#" + std::to_string(number);
+            guard.source = path + ":" + std::to_string(line);
+        }
+        taker.take(guard);
+        line += piece.newlines();
         piece.clear();
     }
 
@@ -81,11 +71,10 @@ private:
     GuardTaker &taker;
     // What was added and is of no piece yet.
     std::string window;
-    std::string piece;
+    GuardText piece;
     uint64_t number = 0;
-    // Where the piece begins, and how many lines it has so far.
+    // Where the piece begins.
     uint64_t line = 1;
-    uint64_t newlines = 0;
 };
 
 void take_file(const fs::path &path, GuardTaker &taker)
@@ -97,42 +86,40 @@ void take_file(const fs::path &path, GuardTaker &taker)
     pieces.end();
 }
 
-// Reads so many bytes, and keeps as many of them as can matter. Gives how many lines end in them, kept or not.
-uint64_t read_guard(File &set, uint64_t length, std::string &kept)
+// Reads so many bytes.
+void read_guard(File &set, uint64_t length, GuardText &text)
 {
-    uint64_t newlines = 0;
-    kept.clear();
+    text.clear();
     while (length > 0) {
         const std::string_view part = set.read(length);
         if (part.empty())
             throw Unreadable("it became shorter while it was read");
-        newlines += newlines_in(part);
-        kept.append(part.substr(0, longest_kept - kept.size()));
+        text.add(part);
         length -= part.size();
     }
-    return newlines;
 }
 
 // Takes guards.txt by its index.
 void take_set(const fs::path &path, const fs::path &index, GuardTaker &taker)
 {
     File set(path);
-    std::string text;
+    std::string lines;
     std::vector<IndexRow> rows;
     try {
-        text = read_whole(index, longest_index);
-        rows = read_index(text, set.size());
+        lines = read_whole(index, longest_index);
+        rows = read_index(lines, set.size());
     } catch (const Unreadable &fault) {
         taker.miss(index, fault.what());
         return take_file(path, taker);
     }
     const std::string file = path.string();
-    std::string kept;
+    GuardText text;
     uint64_t line = 1;
     for (const IndexRow &row : rows) {
-        const uint64_t newlines = read_guard(set, row.length, kept);
-        taker.take({std::string(row.id), std::string(row.source), file, line, kept, std::string(row.project)});
-        line += newlines;
+        read_guard(set, row.length, text);
+        taker.take({std::string(row.id), std::string(row.source), file, line, text.kept(), std::string(row.project),
+                    text.is_sat(), text.is_cut()});
+        line += text.newlines();
     }
 }
 

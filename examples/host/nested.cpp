@@ -4,8 +4,9 @@
 // their clauses share the project's options and no helper. Then all clauses are solved together.
 
 #include "file.hpp"
+#include "formula.hpp"
+#include "guard_text.hpp"
 #include "guards.hpp"
-#include "node_file.hpp"
 #include "refusal.hpp"
 #include "shown.hpp"
 #include "solver.hpp"
@@ -18,6 +19,7 @@
 #include <optional>
 #include <stdexcept>
 #include <string>
+#include <string_view>
 #include <vector>
 
 namespace {
@@ -32,7 +34,8 @@ constexpr int not_asked = 2;
 constexpr char help[] = "nested OUTERMOST [INNER...]\n"
                         "\n"
                         "Says whether the innermost of branches that stand inside each other can ever be compiled.\n"
-                        "Each word is the node file of a branch's own guard. All have the same option count.\n"
+                        "Each word is the node file or the p sat file of a branch's own guard. All have the same option\n"
+                        "count.\n"
                         "\n"
                         "Exit status: 0 decided, 1 a guard refused or the solver gave up, 2 bad usage or a file\n"
                         "that cannot be read.\n";
@@ -43,7 +46,7 @@ public:
     explicit Nest(uint32_t options) : options(options), guards(options) {}
 
     // Converts one more guard. The answer is that of convert, or the first refusal. Throws where it is of another project.
-    simbolufa::answer add(const NodeFile &guard)
+    simbolufa::answer add(const Formula &guard)
     {
         if (guard.options != options)
             throw std::runtime_error("the option counts differ, so the guards are not of one project");
@@ -94,18 +97,22 @@ void say_refusal(const Guard &guard, const simbolufa::answer &told, uint32_t opt
 
 int run(int count, char **paths)
 {
-    NodeFile file;
+    Formula formula;
     std::optional<Nest> nest;
     for (int at = 0; at < count; at++) {
-        const std::string text = read_whole(paths[at], longest_node_file);
-        simbolufa::answer told = read_node_file(text, file);
+        File file(paths[at]);
+        GuardText text;
+        for (std::string_view part; !(part = file.read()).empty();)
+            text.add(part);
+        const Guard guard{paths[at], "", paths[at], 1, text.kept(), "", text.is_sat(), text.is_cut()};
+        simbolufa::answer told = read_formula(guard, formula);
         if (told) {
             if (!nest)
-                nest.emplace(file.options);
-            told = nest->add(file);
+                nest.emplace(formula.options);
+            told = nest->add(formula);
         }
         if (!told) {
-            say_refusal({paths[at], "", paths[at], 1, text}, told, file.options);
+            say_refusal(guard, told, formula.options);
             return refused_or_undecided;
         }
         std::printf("%s\t%u clauses\t%u variables so far\n", shown(paths[at]).c_str(), told.second, told.first);

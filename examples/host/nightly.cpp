@@ -1,7 +1,8 @@
 // The nightly pass: asks a solver, for each guard of a set, whether some choice of options compiles its branch.
 
+#include "file.hpp"
+#include "formula.hpp"
 #include "guards.hpp"
-#include "node_file.hpp"
 #include "origins.hpp"
 #include "report.hpp"
 #include "shown.hpp"
@@ -38,8 +39,11 @@ constexpr int bad_usage = 2;
 constexpr char usage[] = "nightly [--quiet] [--times] [--conflicts N] [--origins FOLDER [--names NAMES]] PATH...\n"
                          "\n"
                          "Says which branches can never be compiled. A PATH is a node file, a file of several node\n"
-                         "files, or a folder of such files. guards.txt with index.tsv beside it is read by its index.\n"
-                         "Hidden files and backups in a folder are passed over: `.x`, `x~`, `#x#`.\n"
+                         "files, a p sat file, or a folder of such files. guards.txt with index.tsv beside it is read by\n"
+                         "its index. Hidden files and backups in a folder are passed over: `.x`, `x~`, `#x#`.\n"
+                         "\n"
+                         "The first lines say what a file or an indexed guard is: it is a p sat text where the first line\n"
+                         "that does not begin with c begins with p and a space or a tab. A p sat file is one guard.\n"
                          "\n"
                          "  --quiet            only dead branches, refusals, and what is not decided, read, written or\n"
                          "                     named\n"
@@ -62,7 +66,8 @@ constexpr char usage[] = "nightly [--quiet] [--times] [--conflicts N] [--origins
                          "Dead branches go to standard output, one a line: name, `never compiled`, source.\n"
                          "Refusals go to standard error, one a line: name, `refused`, number, place, source, FILE:LINE,\n"
                          "what is wrong. LINE is the line to mend, counted in the whole FILE. Where no one line is\n"
-                         "wrong, it is the one on which the guard begins. Numbers, as they are looked at:\n"
+                         "wrong, it is the one on which the guard begins. The place of 17 is the byte, counted from 0,\n"
+                         "and the column is said. Numbers, as they are looked at:\n"
                          "\n";
 
 constexpr char exits[] = "\n"
@@ -71,9 +76,10 @@ constexpr char exits[] = "\n"
                          "128 and the number of a signal that ended the pass.\n";
 
 // The refusals that a guard can meet here, in the order in which they are looked at.
-constexpr uint32_t refusals[] = {SIMBOLUFA_REFUSED_NODE_FILE, SIMBOLUFA_REFUSED_TABLE_LENGTH, SIMBOLUFA_REFUSED_OPTIONS,
-                                 SIMBOLUFA_REFUSED_KIND,      SIMBOLUFA_REFUSED_UNUSED_FIELD, SIMBOLUFA_REFUSED_CHILD,
-                                 SIMBOLUFA_REFUSED_SYMBOL,    SIMBOLUFA_REFUSED_CLAUSES,      SIMBOLUFA_REFUSED_LITERALS};
+constexpr uint32_t refusals[] = {SIMBOLUFA_REFUSED_NODE_FILE,    SIMBOLUFA_REFUSED_SAT_TEXT, SIMBOLUFA_REFUSED_NODES,
+                                 SIMBOLUFA_REFUSED_TABLE_LENGTH, SIMBOLUFA_REFUSED_OPTIONS,  SIMBOLUFA_REFUSED_KIND,
+                                 SIMBOLUFA_REFUSED_UNUSED_FIELD, SIMBOLUFA_REFUSED_CHILD,    SIMBOLUFA_REFUSED_SYMBOL,
+                                 SIMBOLUFA_REFUSED_CLAUSES,      SIMBOLUFA_REFUSED_LITERALS};
 
 std::string help()
 {
@@ -128,6 +134,8 @@ public:
         stop_if_caught();
         try {
             decide(guard);
+        } catch (const Unreadable &fault) {
+            report.missed(guard.name, fault.what());
         } catch (const std::bad_alloc &) {
             report.missed(guard.name, "there is not enough memory");
         }
@@ -152,7 +160,7 @@ private:
         spent.solve += watch.lap();
         // Whoever reads that a branch is dead finds the file there.
         if (origins != nullptr) {
-            origins->write(guard, file, {set.data(), simbolufa::nodes_of(file.table)}, {clauses.data(), needed});
+            origins->write(guard, formula, {set.data(), simbolufa::nodes_of(formula.table)}, {clauses.data(), needed});
             *spent.origins += watch.lap();
         }
         switch (verdict) {
@@ -165,25 +173,25 @@ private:
         }
     }
 
-    // From a node file to clauses. The first refusal ends it.
+    // From a text to clauses. The first refusal ends it. Throws Unreadable.
     simbolufa::answer convert(const Guard &guard)
     {
         // The time since the last guard went into finding this one.
-        simbolufa::answer told = read_node_file(guard.text, file);
+        simbolufa::answer told = read_formula(guard, formula);
         spent.read += watch.lap();
         if (!told.accepted())
             return told;
 
-        const simbolufa::room chosen{set.data(), simbolufa::nodes_of(file.table)};
-        told = simbolufa::choose(file.table, file.options, allowance, chosen);
+        const simbolufa::room chosen{set.data(), simbolufa::nodes_of(formula.table)};
+        told = simbolufa::choose(formula.table, formula.options, allowance, chosen);
         spent.choose += watch.lap();
         if (!told.accepted())
             return told;
 
-        told = simbolufa::needed_bytes(file.table, file.options, chosen, needed);
+        told = simbolufa::needed_bytes(formula.table, formula.options, chosen, needed);
         if (told.accepted()) {
             clauses.resize(std::max(clauses.size(), needed));
-            told = simbolufa::convert(file.table, file.options, chosen, {clauses.data(), needed});
+            told = simbolufa::convert(formula.table, formula.options, chosen, {clauses.data(), needed});
         }
         spent.convert += watch.lap();
         return told;
@@ -191,7 +199,7 @@ private:
 
     Report &report;
     Origins *const origins;
-    NodeFile file;
+    Formula formula;
     std::array<uint8_t, most_nodes> set{};
     std::vector<uint8_t> clauses;
     // How many bytes of `clauses` are those of the guard.

@@ -93,21 +93,21 @@ bool append_node(std::vector<uint8_t> &table, std::string_view line, size_t node
 
 } // namespace
 
-simbolufa::answer read_node_file(std::string_view text, NodeFile &file)
+simbolufa::answer read_node_file(std::string_view text, Formula &formula)
 {
-    file.options = 0;
-    file.table.clear();
+    formula.options = 0;
+    formula.table.clear();
     if (text.size() > longest_node_file)
         return refused_at(0);
     const auto first = take_line(text);
     const auto options = first ? options_of(*first) : std::nullopt;
     if (!options)
         return refused_at(1);
-    file.options = *options;
+    formula.options = *options;
     for (size_t node = 0; !text.empty(); node++) {
         const auto line = take_line(text);
         // Node 0 stands in line 2.
-        if (!line || !append_node(file.table, *line, node))
+        if (!line || !append_node(formula.table, *line, node))
             return refused_at(node + 2);
     }
     return {};

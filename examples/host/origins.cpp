@@ -34,14 +34,14 @@ Origins::Origins(const fs::path &folder, const fs::path &names, Report &report)
 {
 }
 
-void Origins::write(const Guard &guard, const NodeFile &file, simbolufa::bytes set, simbolufa::bytes clauses)
+void Origins::write(const Guard &guard, const Formula &formula, simbolufa::bytes set, simbolufa::bytes clauses)
 {
-    const Names *names = projects.names_of(guard, file.options);
+    const Names *names = projects.names_of(guard, formula.options);
     if (names == nullptr)
         return report.without_origins();
     const std::string name = as_file_name(guard.name) + ".tsv";
     try {
-        folder.put(name, lines_of(file, set, clauses, *names));
+        folder.put(name, lines_of(formula, set, clauses, *names));
     } catch (const Unwritable &fault) {
         report.unwritten(path / name, fault.what());
     } catch (const std::bad_alloc &) {
@@ -77,14 +77,14 @@ size_t Origins::room_for(simbolufa::bytes clauses, uint32_t options, const Names
     return room;
 }
 
-std::string_view Origins::lines_of(const NodeFile &file, simbolufa::bytes set, simbolufa::bytes clauses, const Names &names)
+std::string_view Origins::lines_of(const Formula &formula, simbolufa::bytes set, simbolufa::bytes clauses, const Names &names)
 {
     name_helpers(set, names);
-    const size_t room = room_for(clauses, file.options, names);
+    const size_t room = room_for(clauses, formula.options, names);
     if (room > longest_lines)
         throw Unwritable("the lines would be over " + std::to_string(longest_lines) + " bytes");
     lines.resize(std::max(lines.size(), room));
-    const auto told = simbolufa::origins(file.table, file.options, set, names.first(file.options), helpers, lines);
+    const auto told = simbolufa::origins(formula.table, formula.options, set, names.first(formula.options), helpers, lines);
     if (!told)
         throw Unwritable(told.sentence());
     // The second value is the number of clauses, and each has a line.

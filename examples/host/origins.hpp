@@ -3,10 +3,10 @@
 #ifndef ORIGINS_HPP
 #define ORIGINS_HPP
 
+#include "formula.hpp"
 #include "guards.hpp"
 #include "names.hpp"
 #include "new_folder.hpp"
-#include "node_file.hpp"
 #include "projects.hpp"
 #include "report.hpp"
 
@@ -26,7 +26,7 @@ public:
 
     // Writes the file of a guard that was converted under this set to these clauses. It has the line of each. Where the
     // guard gets no file the report says so.
-    void write(const Guard &guard, const NodeFile &file, simbolufa::bytes set, simbolufa::bytes clauses);
+    void write(const Guard &guard, const Formula &formula, simbolufa::bytes set, simbolufa::bytes clauses);
 
     // Whether a file was read as names, or was to be.
     bool is_names(const std::filesystem::path &path) const { return projects.is_names(path); }
@@ -36,7 +36,7 @@ private:
     // At least as many bytes as the lines of the clauses have.
     size_t room_for(simbolufa::bytes clauses, uint32_t options, const Names &names) const;
     // The lines of all clauses. They are gone with the next call. Throws Unwritable.
-    std::string_view lines_of(const NodeFile &file, simbolufa::bytes set, simbolufa::bytes clauses, const Names &names);
+    std::string_view lines_of(const Formula &formula, simbolufa::bytes set, simbolufa::bytes clauses, const Names &names);
 
     const std::filesystem::path path;
     Report &report;

@@ -9,7 +9,7 @@
 
 #include <string>
 
-// What is wrong with a guard, in words.
+// What is wrong with a guard, in words. Of a p sat text that is not accepted they begin with the column.
 std::string sentence_of(const Guard &guard, const simbolufa::answer &answer);
 
 // The line of a refusal, without its end. It always has seven fields, parted by tabs: the guard's name, `refused`, the

@@ -49,6 +49,8 @@ struct Guard {
     Bytes set;
     Bytes clauses;
     std::string text;
+    // A p sat text, which is of another guard.
+    std::string sat;
     std::string option_names;
     std::string helper_names;
     // Where the clauses come from.
@@ -116,7 +118,21 @@ Told ask(const Guard &guard, uint32_t allowance)
     told.add(simbolufa::write_dimacs(guard.clauses, 1, text));
     told.add(simbolufa::read_dimacs(guard.text, clauses), clauses);
     told.add(simbolufa::read_dimacs(guard.text.substr(1), clauses));
+    Bytes table(simbolufa::longest_table, 9);
+    told.add(simbolufa::read_sat(guard.sat, table), table);
+    told.add(simbolufa::read_sat(guard.sat.substr(allowance % 4 + 1), table));
     return told;
+}
+
+// A p sat text: a list of so many options, some of them negated and some in a list of their own.
+std::string sat_of(size_t members)
+{
+    std::string text = "c a guard\np sat " + std::to_string(options) + "\n*(";
+    for (size_t member = 1; member <= members; member++) {
+        const std::string option = std::to_string(1 + member % options);
+        text += member % 3 == 0 ? " +(" + option + " -(" + option + "))" : (member % 2 == 0 ? " -" : " ") + option;
+    }
+    return text + ")\n";
 }
 
 // A name for each of so many variables.
@@ -143,6 +159,7 @@ std::vector<Guard> guards()
         if (!simbolufa::convert(guard.table, options, guard.set, guard.clauses))
             continue;
         guard.text.resize(simbolufa::text_bytes(guard.clauses, 2000));
+        guard.sat = sat_of(nodes);
         guard.option_names = names_of('o', options);
         guard.helper_names = names_of('h', static_cast<size_t>(std::count(guard.set.begin(), guard.set.end(), 1)));
         if (simbolufa::write_dimacs(guard.clauses, 2000, guard.text) &&

@@ -1,9 +1,11 @@
-// Checks what simbolufa.hpp adds to simbolufa.h: its views, its answer, and the sizes of a conversion and of texts.
+// Checks what simbolufa.hpp adds to simbolufa.h: its views, its answer, and the sizes of a conversion, of texts and of tables.
+// And the words for refused node files and p sat texts, as far as a host may ask for them.
 
 #include <simbolufa.hpp>
 // Twice, because a host's headers may each include it.
 #include <simbolufa.hpp>
 #include <simbolufa_node_file.h>
+#include <simbolufa_sat_file.h>
 
 #include <algorithm>
 #include <array>
@@ -11,6 +13,7 @@
 #include <cstdint>
 #include <cstdio>
 #include <cstring>
+#include <iterator>
 #include <random>
 #include <string>
 #include <string_view>
@@ -76,6 +79,7 @@ static_assert(noexcept(simbolufa::together(0).convert({}, {}, {})) && simbolufa:
 static_assert(!std::is_convertible_v<uint32_t, simbolufa::together>);
 static_assert(noexcept(simbolufa::origin({}, 0, {}, 0, {}, {}, {})));
 static_assert(noexcept(simbolufa::origins({}, 0, {}, {}, {}, {})));
+static_assert(noexcept(simbolufa::read_sat({}, {})) && simbolufa::longest_table == 5 * 1024);
 static_assert(std::is_trivially_copyable_v<simbolufa::answer>);
 static_assert(noexcept(simbolufa::answer{}.sentence()) && noexcept(simbolufa::answer{}.is_record()));
 // An answer is asked, and is no number.
@@ -183,7 +187,7 @@ void check_calls()
 // What each number says, and which of them are about a record. The words are those of simbolufa.h.
 void check_sentences()
 {
-    const std::array<std::string_view, 18> sentences = {
+    const std::array<std::string_view, 20> sentences = {
         "nothing is wrong",
         "the table is empty, is not a multiple of 5 bytes, or is over 5,120 bytes",
         "the option count is over 32,000, or what is taken is below it or over 32,000",
@@ -201,6 +205,8 @@ void check_sentences()
         "a symbol is not one of 1 to V, the option count",
         "there is no clause of this number",
         "a list of names has a name too few or too many, an empty name, a tab, or no newline at its end",
+        "the p sat text is not accepted",
+        "the formula has more than 1,024 nodes",
         "there is no such number",
     };
     for (uint32_t number = 0; number < sentences.size(); number++) {
@@ -211,12 +217,17 @@ void check_sentences()
         const uint32_t line = is_record ? 9 : number == 10 ? 7 : number == 2 ? 1 : number == 1 ? 2 : 0;
         expect("a line", simbolufa_line_of(number, 7) == line);
     }
-    expect("another number", simbolufa::answer{simbolufa_answer{UINT32_MAX, 0, 0, 0}}.sentence() == sentences[17]);
+    expect("another number", simbolufa::answer{simbolufa_answer{UINT32_MAX, 0, 0, 0}}.sentence() == sentences[19]);
     const uint8_t capital[] = {'O', 'p', 't', 'i', 'o', 'n', 's', '\t', '2', '\n'};
     const std::string_view small = "the word options is not in small letters";
     expect("a node file", small == simbolufa_node_file_sentence(capital, sizeof capital, 10, 1));
     expect("no node file", std::string_view("the node file is empty") == simbolufa_node_file_sentence(nullptr, 0, 10, 1));
     expect("a former name", SIMBOLUFA_REFUSED_RECORD == SIMBOLUFA_REFUSED_KIND);
+}
+
+bool are_words(std::string_view words)
+{
+    return words.size() > 9 && words[0] >= 'a' && words[0] <= 'w' && words.back() != '.';
 }
 
 // Words for drawn texts, whatever number and place are asked of them. Each text has exactly its own memory, so that a
@@ -232,13 +243,59 @@ void check_node_files()
             made.insert(random() % (made.size() + 1), 1, drawn[random() % drawn.size()]);
         const Bytes file(made.begin(), made.end());
         bool holds = true;
-        for (uint32_t number = 0; number < 18; number++)
-            for (const uint32_t place : {0u, 1u, 2u, 3u, 4u, 5u, 1026u, UINT32_MAX}) {
-                const std::string_view words = simbolufa_node_file_sentence(file.data(), file.size(), number, place);
-                holds = holds && words.size() > 9 && words[0] >= 'a' && words[0] <= 't' && words.back() != '.';
-            }
+        for (uint32_t number = 0; number < 20; number++)
+            for (const uint32_t place : {0u, 1u, 2u, 3u, 4u, 5u, 1026u, UINT32_MAX})
+                holds = holds && are_words(simbolufa_node_file_sentence(file.data(), file.size(), number, place));
         expect("words for a drawn text", holds);
     }
+}
+
+// The same for p sat texts, at the place where the library refuses each and at all others.
+void check_sat_files()
+{
+    constexpr std::string_view right = "c two\np sat 12\n*(+(1 -12)\n -(*(3 4)) (5)\t+() )\n";
+    constexpr std::string_view drawn = "  \n\r\tcpsat()()*+-0012x\xEF";
+    std::mt19937 random(3);
+    int refused = 0;
+    for (int turn = 0; turn < 2000; turn++) {
+        std::string made(right.substr(0, turn % 3 == 0 ? random() % (right.size() + 1) : right.size()));
+        for (size_t times = random() % 4; times > 0; times--)
+            if (random() % 2 == 0)
+                made.insert(random() % (made.size() + 1), 1, drawn[random() % drawn.size()]);
+            else
+                made.erase(random() % (made.size() + 1), 1);
+        const Bytes file(made.begin(), made.end());
+        Bytes nodes;
+        const simbolufa::answer told = simbolufa::sat_table(file, nodes);
+        const std::string_view words = simbolufa_sat_sentence(file.data(), file.size(), told.number, told.place);
+        refused += told ? 0 : 1;
+        bool holds = are_words(words) && (words == told.sentence()) == told.accepted() && told.place <= file.size();
+        for (uint32_t place = 0; place < file.size() + 3; place++)
+            holds = holds && are_words(simbolufa_sat_sentence(file.data(), file.size(), 17, place));
+        const auto at = simbolufa_position_of(file.data(), file.size(), told.place);
+        const std::string_view before(made.data(), told.place);
+        const auto line = static_cast<size_t>(std::count(before.begin(), before.end(), '\n')) + 1;
+        const size_t start = before.rfind('\n') == std::string_view::npos ? 0 : before.rfind('\n') + 1;
+        expect("words for a drawn p sat text", holds && at.line == line && at.column == told.place - start + 1);
+    }
+    expect("refused p sat texts", refused > 500 && refused < 1900);
+    expect("the words for another number", simbolufa_sat_sentence(nullptr, 0, 18, 0) == simbolufa_sentence(18));
+    expect("no text", std::string_view(simbolufa_sat_sentence(nullptr, 0, 17, 0)).substr(0, 13) == "the text ends");
+    expect("a place behind the text", simbolufa_sat_sentence(nullptr, 0, 17, 1) == simbolufa_sentence(17));
+    expect("the highest place", simbolufa_sat_sentence(nullptr, 0, 17, UINT32_MAX) == simbolufa_sentence(17));
+}
+
+// What a text is by its first lines.
+void check_first_lines()
+{
+    const std::array<std::string_view, 6> sat = {"p ", "p\t", "p cnf 1 1\n", "c\np sat", "cp\ncp\np x", "c \r\np "};
+    const std::array<std::string_view, 10> other = {"",     "c",          "p",      "c\n",   "p\n",
+                                                    "psat", "c\n\np sat", " p sat", "P sat", "options\t1"};
+    for (const std::string_view one : sat)
+        expect("a p sat text", simbolufa_is_sat_text(simbolufa::bytes(one).data, one.size()) == 1);
+    for (const std::string_view one : other)
+        expect("no p sat text", simbolufa_is_sat_text(simbolufa::bytes(one).data, one.size()) == 0);
+    expect("a cut text", simbolufa_is_sat_text(simbolufa::bytes(sat[0]).data, 1) == 0);
 }
 
 void check_sizes()
@@ -281,6 +338,52 @@ void check_texts()
     expect("read without room", is(simbolufa::read_dimacs(written, {}), 7, 0, 0, 0));
     written[0] = 'q';
     expect("read a wrong text", is(simbolufa::read_dimacs(written, again), 8, 0, 0, 0));
+}
+
+// p sat texts, and the tables that are made of them.
+void check_sat()
+{
+    constexpr std::string_view sat = "c E is 1, F is 2\np sat 9\n*(1 -2\n 1)\n";
+    const Bytes nodes = {2, 1, 0, 0, 0, 2, 2, 0, 0, 0, 3, 1, 0, 0, 0, 4, 0, 0, 2, 0, 2, 1, 0, 0, 0, 4, 3, 0, 4, 0};
+    Bytes made(40, 7);
+    expect("read a p sat text", is(simbolufa::read_sat(sat, made), 0, 0, 9, 6));
+    Bytes longer = nodes;
+    longer.resize(40, 7);
+    expect("its table and the bytes behind it", made == longer);
+    expect("in its own length", is(simbolufa::read_sat(sat, {made.data(), 30}), 0, 0, 9, 6));
+    made.assign(29, 7);
+    expect("in one byte less", is(simbolufa::read_sat(sat, made), 7, 0, 0, 0) && made == Bytes(29, 7));
+    expect("without room", is(simbolufa::read_sat(sat, {}), 7, 0, 0, 0));
+    expect("no text", is(simbolufa::read_sat({}, {}), 17, 0, 0, 0));
+    expect("a table of its own length", is(simbolufa::sat_table(sat, made), 0, 0, 9, 6) && made == nodes);
+    std::vector<std::byte> bytes(7000);
+    expect("a table of bytes", is(simbolufa::sat_table(sat, bytes), 0, 0, 9, 6) && bytes.size() == nodes.size() &&
+                                   std::memcmp(bytes.data(), nodes.data(), nodes.size()) == 0);
+    expect("a refusal leaves no table", is(simbolufa::sat_table(sat.substr(1), made), 17, 0, 0, 0) && made.empty());
+    expect("a text that ends", is(simbolufa::sat_table(sat.substr(0, 30), made), 17, 30, 0, 0));
+    expect("the byte that is wrong", is(simbolufa::sat_table(std::string(sat) + "(", made), 17, sat.size(), 0, 0));
+
+    // The table goes on to be converted, with the V that is told.
+    const simbolufa::answer told = simbolufa::sat_table(sat, made);
+    Bytes set(simbolufa::nodes_of(made), 9);
+    Bytes clauses(24);
+    expect("check it", told && is(simbolufa::check(made, told.first), 0, 0, 0, 0));
+    expect("choose for it", is(simbolufa::choose(made, told.first, 1024, set), 0, 0, 0, 3));
+    expect("convert it", is(simbolufa::convert(made, told.first, set, clauses), 0, 0, 9, 3));
+
+    // 1,024 nodes fill the largest table, and one more is refused.
+    std::string list = "p sat 1\n*(-1";
+    for (int member = 1; member < 512; member++)
+        list += " 1";
+    expect("1,024 nodes", is(simbolufa::sat_table(list + ")", made), 0, 0, 1, 1024) && made.size() == 5120);
+    expect("a node more", is(simbolufa::sat_table(list + " 1)", made), 18, 0, 0, 0) && made.empty());
+    expect("the text comes first", is(simbolufa::read_sat(list + " 1", {}), 17, 1036, 0, 0));
+    expect("then the nodes", is(simbolufa::read_sat(list + " 1)", {}), 18, 0, 0, 0));
+    uint8_t part[SIMBOLUFA_ANSWER_LENGTH + 1] = {};
+    const simbolufa::bytes lent(sat);
+    expect("the answer part before all", simbolufa_read_sat(nullptr, 0, nullptr, 0, part, sizeof part) == 11 &&
+                                             simbolufa_read_sat(lent.data, lent.size, nullptr, 0, part, 15) == 11 &&
+                                             std::count(std::begin(part), std::end(part), 0) == sizeof part);
 }
 
 // Views of bytes that are called something else.
@@ -570,8 +673,11 @@ int main()
     check_calls();
     check_sentences();
     check_node_files();
+    check_sat_files();
+    check_first_lines();
     check_sizes();
     check_texts();
+    check_sat();
     check_views();
     check_text_sizes();
     check_convert_after();
