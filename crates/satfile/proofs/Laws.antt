@@ -3,3 +3,4 @@ pub mod Records
 pub mod Rests
 pub mod Stores
 pub mod Tells
+pub mod Groups

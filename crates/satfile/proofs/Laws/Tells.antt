@@ -6,12 +6,15 @@ use mathlib.Core.List.{List}
 use Prim.Native.Nat.{ℕ, _+_, _≤_}
 use native.Mathlib.Omega.{arith}
 use Rattle.satfile.specs.Inner.Reads.{Out, Read, Bad, andThen, Begin, Leaf, Open}
-use Rattle.satfile.specs.Inner.Parts.{TellsNumber, ReadTo, WrongAt, OpenTo, TellsBegin, leafNodes, leafBytes}
+use Rattle.satfile.specs.Inner.Parts.{TellsNumber, ReadTo, WrongAt, OpenTo, TellsBegin, leafNodes, leafBytes, DoneTo, WrongTo, Tells}
+use Rattle.satfile.specs.Trees.{Tree}
 use Rattle.satfile.specs.declared.lead.Group.{Group}
 use Rattle.satfile.specs.declared.lead.Numeral.{Numeral}
 use Rattle.satfile.specs.declared.lead.Numeral.the-variants as numeral
 use Rattle.satfile.specs.declared.lead.Lead.{Lead}
 use Rattle.satfile.specs.declared.lead.Lead.the-variants as lead
+use Rattle.satfile.specs.declared.nested.Part.{Part}
+use Rattle.satfile.specs.declared.nested.Part.the-variants as part
 
 -- a number
 module _ (text : List ℕ) (from : ℕ) (r : Numeral) where
@@ -59,3 +62,23 @@ module _ (text : List ℕ) (from at d : ℕ) {o p : Out Begin} (e : p ≡ o) (h 
 pub few-behind : (at : ℕ) (n : Bool) → at + leafNodes n ≤ at + 1 + leafBytes true n
 few-behind at false = omega arith
 few-behind at true = omega arith
+
+-- how a formula begins, by each answer
+module _ (text : List ℕ) (from d : ℕ) (o : Out Begin) (r : Lead) (h : TellsBegin leafNodes text from d o r) where
+  pub begin-leaf : (value : ℕ) (negated : Bool) (at : ℕ) → r ≡ lead.Symbol value negated at
+      → ReadTo text o (Leaf value negated) (from + leafNodes negated) at
+  begin-leaf value negated at e = subst (TellsBegin leafNodes text from d o) e h
+
+  pub begin-open : (g : Group) (at : ℕ) → r ≡ lead.Open g at → OpenTo text o g from at d
+  begin-open g at e = subst (TellsBegin leafNodes text from d o) e h
+
+  pub begin-wrong : (place : ℕ) → r ≡ lead.Wrong place → WrongAt text o place
+  begin-wrong place e = subst (TellsBegin leafNodes text from d o) e h
+
+-- a formula or a group, by each answer
+module _ (text before : List ℕ) (from i : ℕ) (o : Out Tree) (r : Part) (after : List ℕ) (h : Tells text before from i o r after) where
+  pub told-done : (at next : ℕ) → r ≡ part.Done at next → DoneTo text before from i o at next after
+  told-done at next e = subst (λ (x : Part). Tells text before from i o x after) e h
+
+  pub told-wrong : (place : ℕ) → r ≡ part.Wrong place → WrongTo text before o place after
+  told-wrong place e = subst (λ (x : Part). Tells text before from i o x after) e h

@@ -9,7 +9,7 @@ use lib.ListN.{length}
 use Rattle.laws.specs.Lists.{splice}
 use Rattle.formula.specs.Tables.{nodeBytes, nodeRecord}
 use Rattle.satfile.specs.Trees.{Tree, And, Or, sizeOf, emptyKind, joinKind, recordsFrom}
-use Rattle.satfile.specs.Inner.Reads.{Partly, none, some, joinOf}
+use Rattle.satfile.specs.Inner.Reads.{Partly, none, some, joinOf, isWhole}
 use Rattle.satfile.specs.declared.lead.Group.{Group}
 use Rattle.satfile.specs.declared.lead.Group.the-variants as group
 
@@ -42,11 +42,11 @@ foldRecords g i behind after = cond (eqb behind i) [] (joinRecord g behind after
 abbrev pub foldNodes : ℕ → ℕ → ℕ
 foldNodes i behind = cond (eqb behind i) 0 1
 
--- what joining asks
+-- what joining asks: there is a number for the node that joins
 pub record Folding (i behind after : ℕ) : Type 0 where
   pub began : i ≤ behind
   pub more : behind ≤ after
-  pub last : after + 1 < 2 ^ 64
+  pub last : (behind ≡ i → ⊥) → after + 1 < 2 ^ 64
 
 -- what the end of a group adds: a constant for an empty list, a not
 abbrev pub emptyRecords : ℕ → ℕ → ℕ → List ℕ
@@ -69,7 +69,7 @@ endNodes group.One i behind = 0
 endNodes group.Not i behind = 1
 endNodes group.Whole i behind = 0
 
--- what the end of a group asks: a not has a child
+-- what the end of a group asks: a not has a child, and there is a number for a node more where the group is closed
 abbrev pub HasChild : Group → ℕ → Type 0
 HasChild group.And behind = Unit {0}
 HasChild group.Or behind = Unit {0}
@@ -79,4 +79,4 @@ HasChild group.Whole behind = Unit {0}
 
 pub record Ending (g : Group) (behind : ℕ) : Type 0 where
   pub child : HasChild g behind
-  pub last : behind + 1 < 2 ^ 64
+  pub last : isWhole g ≡ false → behind + 1 < 2 ^ 64

@@ -1,6 +1,22 @@
-use Prim.Native.Nat.{ℕ, _<_}
+-- `satfile::nested::formula` and `satfile::nested::list` meet their contracts. What falls is the depth: twice it for a formula, and one
+-- more for a group, which holds formulas of that depth. The loop's invariant: what is left is read as the whole group is.
+-- Assumes nothing.
+use mathlib.Core.Path.{_≡_, refl, sym, _∙_}
+use mathlib.Core.Bool.{true, false}
+use mathlib.Core.List.{List}
+use Prim.Native.Nat.{ℕ, _+_, _*_, _-_, _<_}
+use native.Mathlib.Omega.{arith}
+use borrow.Author.Needs.{needs}
+use borrow.Author.Tests.{not-true, not-false}
 use borrow.Fn.Kinds.{In}
 use borrow.Fn.PlainCycle.{Measures, is, falls, and}
+use lib.ListN.{length, drop}
+use Rattle.satfile.specs.Inner.Reads.{beginIn, takes, isFull, endsAt, formulaIn}
+use Rattle.satfile.specs.Inner.Parts.{OpenTo, DoneTo}
+use Rattle.satfile.proofs.Laws.Tells.{begin-leaf, begin-open, begin-wrong, told-done, told-wrong}
+use Rattle.satfile.proofs.Laws.Groups.{leaf-done, leaf-roomy, open-readable, open-told, formula-wrong, Grouping, group-start}
+use Rattle.satfile.proofs.Laws.Groups.{takes-by, full-by, group-over, group-lacks, group-readable, group-wrong, group-unparted, group-folding}
+use Rattle.satfile.proofs.Laws.Groups.{group-next, ahead, closes-within, group-ending, group-done}
 use Rattle.satfile.proofs.nested.formula.Reads as formula
 use Rattle.satfile.proofs.nested.formula.Kinds as formula-kinds
 use Rattle.satfile.proofs.nested.+formula+list.Lts-formula as formula-lts
@@ -22,10 +38,10 @@ use Rattle.satfile.proofs.nested.+formula+list.{statement}
 use Rattle.satfile.proofs.nested.+formula+list.Tie.{close}
 
 abbrev μ-formula : Measures 2 formula-kinds.ps ℕ
-μ-formula κs a = ?
+μ-formula κs a = 2 * a .1 .1 .1 .0
 
 abbrev μ-list : Measures 2 list-kinds.ps ℕ
-μ-list κs a = ?
+μ-list κs a = 2 * a .1 .1 .1 .0 + 1
 
 abbrev formula-at : ℕ → In 2 formula-kinds.ps
 formula-at t = and 2 formula-kinds.ps (is 2 formula-kinds.ps μ-formula t) formula.Pre
@@ -39,146 +55,12 @@ list-at t = and 2 list-kinds.ps (is 2 list-kinds.ps μ-list t) list.Pre
 abbrev list-below : ℕ → In 2 list-kinds.ps
 list-below t = and 2 list-kinds.ps (falls 2 list-kinds.ps _<_ μ-list t) list.Pre
 
--- src/nested.rt:121:11
-formula-begin-requires : (t : ℕ) → formula-lts.Need-begin-requires (
-  begin-reads.Asked,
-  begin-reads.Learnt,
-  leaf-reads.Asked,
-  leaf-reads.Learnt,
-  list-below t,
-  list.Post,
-) (formula-at t) formula.Post
-formula-begin-requires t c κs = ?
+-- what each may call
+abbrev formula-calls : ℕ → formula-lts.Claims
+formula-calls t = (begin-reads.Asked, begin-reads.Learnt, leaf-reads.Asked, leaf-reads.Learnt, list-below t, list.Post)
 
--- src/nested.rt:123:13
-formula-enum-known-value : (t : ℕ) → formula-lts.Need-enum-known-value (
-  begin-reads.Asked,
-  begin-reads.Learnt,
-  leaf-reads.Asked,
-  leaf-reads.Learnt,
-  list-below t,
-  list.Post,
-) (formula-at t) formula.Post
-formula-enum-known-value t c = ?
-
--- src/nested.rt:128:19
-formula-leaf-requires : (t : ℕ) → formula-lts.Need-leaf-requires (
-  begin-reads.Asked,
-  begin-reads.Learnt,
-  leaf-reads.Asked,
-  leaf-reads.Learnt,
-  list-below t,
-  list.Post,
-) (formula-at t) formula.Post
-formula-leaf-requires t c κs = ?
-
--- src/nested.rt:130:22
-formula-enum-known-group : (t : ℕ) → formula-lts.Need-enum-known-group (
-  begin-reads.Asked,
-  begin-reads.Learnt,
-  leaf-reads.Asked,
-  leaf-reads.Learnt,
-  list-below t,
-  list.Post,
-) (formula-at t) formula.Post
-formula-enum-known-group t c = ?
-
--- src/nested.rt:134:13
-formula-sub-list : (t : ℕ) → formula-lts.Need-sub-list (
-  begin-reads.Asked,
-  begin-reads.Learnt,
-  leaf-reads.Asked,
-  leaf-reads.Learnt,
-  list-below t,
-  list.Post,
-) (formula-at t) formula.Post
-formula-sub-list t c = ?
-
--- src/nested.rt:130:45
-formula-list-requires : (t : ℕ) → formula-lts.Need-list-requires (
-  begin-reads.Asked,
-  begin-reads.Learnt,
-  leaf-reads.Asked,
-  leaf-reads.Learnt,
-  list-below t,
-  list.Post,
-) (formula-at t) formula.Post
-formula-list-requires t c κs = ?
-
--- src/nested.rt:139:23
-formula-enum-known-place : (t : ℕ) → formula-lts.Need-enum-known-place (
-  begin-reads.Asked,
-  begin-reads.Learnt,
-  leaf-reads.Asked,
-  leaf-reads.Learnt,
-  list-below t,
-  list.Post,
-) (formula-at t) formula.Post
-formula-enum-known-place t c = ?
-
--- src/nested.rt:116:1
-formula-same-length : (t : ℕ) → formula-lts.Need-same-length (
-  begin-reads.Asked,
-  begin-reads.Learnt,
-  leaf-reads.Asked,
-  leaf-reads.Learnt,
-  list-below t,
-  list.Post,
-) (formula-at t) formula.Post
-formula-same-length t c = ?
-
--- src/nested.rt:116:1
-formula-returns : (t : ℕ) → formula-lts.Need-returns (
-  begin-reads.Asked,
-  begin-reads.Learnt,
-  leaf-reads.Asked,
-  leaf-reads.Learnt,
-  list-below t,
-  list.Post,
-) (formula-at t) formula.Post
-formula-returns t c = ?
-
--- src/nested.rt:116:1
-formula-same-length-2 : (t : ℕ) → formula-lts.Need-same-length-2 (
-  begin-reads.Asked,
-  begin-reads.Learnt,
-  leaf-reads.Asked,
-  leaf-reads.Learnt,
-  list-below t,
-  list.Post,
-) (formula-at t) formula.Post
-formula-same-length-2 t c = ?
-
--- src/nested.rt:116:1
-formula-returns-2 : (t : ℕ) → formula-lts.Need-returns-2 (
-  begin-reads.Asked,
-  begin-reads.Learnt,
-  leaf-reads.Asked,
-  leaf-reads.Learnt,
-  list-below t,
-  list.Post,
-) (formula-at t) formula.Post
-formula-returns-2 t c = ?
-
--- src/nested.rt:116:1
-formula-returns-3 : (t : ℕ) → formula-lts.Need-returns-3 (
-  begin-reads.Asked,
-  begin-reads.Learnt,
-  leaf-reads.Asked,
-  leaf-reads.Learnt,
-  list-below t,
-  list.Post,
-) (formula-at t) formula.Post
-formula-returns-3 t c = ?
-
-abbrev list-Inv-loop : list-lts.InvT-loop
-list-Inv-loop text at next depth options group table₀ many i₀ behind₀ table i behind = ?
-
-abbrev list-μ-loop : list-lts.MeasureT-loop
-list-μ-loop text at next depth options group table₀ many i₀ behind₀ table i behind = ?
-
--- src/nested.rt:157:9
-list-is-many-requires : (t : ℕ) → list-lts.Need-is-many-requires (
+abbrev list-calls : ℕ → list-lts.Claims
+list-calls t = (
   is-many-reads.Asked,
   is-many-reads.Learnt,
   skip-reads.Asked,
@@ -199,706 +81,323 @@ list-is-many-requires : (t : ℕ) → list-lts.Need-is-many-requires (
   past-reads.Learnt,
   end-reads.Asked,
   end-reads.Learnt,
-) (list-at t) list.Post list-Inv-loop list-μ-loop
-list-is-many-requires t c κs = ?
+)
 
--- src/nested.rt:158:9
-list-skip-requires : (t : ℕ) → list-lts.Need-skip-requires (
-  is-many-reads.Asked,
-  is-many-reads.Learnt,
-  skip-reads.Asked,
-  skip-reads.Learnt,
-  is-end-reads.Asked,
-  is-end-reads.Learnt,
-  is-open-reads.Asked,
-  is-open-reads.Learnt,
-  formula-below t,
-  formula.Post,
-  is-parted-reads.Asked,
-  is-parted-reads.Learnt,
-  fold-reads.Asked,
-  fold-reads.Learnt,
-  is-full-reads.Asked,
-  is-full-reads.Learnt,
-  past-reads.Asked,
-  past-reads.Learnt,
-  end-reads.Asked,
-  end-reads.Learnt,
-) (list-at t) list.Post list-Inv-loop list-μ-loop
-list-skip-requires t c κs = ?
+abbrev Inv : list-lts.InvT-loop
+Inv text at next depth options group table₀ many i₀ behind₀ table i behind =
+    Grouping options depth group text table₀ at next table i behind
 
--- src/nested.rt:160:5
-list-loop-holds : (t : ℕ) → list-lts.Need-loop-holds (
-  is-many-reads.Asked,
-  is-many-reads.Learnt,
-  skip-reads.Asked,
-  skip-reads.Learnt,
-  is-end-reads.Asked,
-  is-end-reads.Learnt,
-  is-open-reads.Asked,
-  is-open-reads.Learnt,
-  formula-below t,
-  formula.Post,
-  is-parted-reads.Asked,
-  is-parted-reads.Learnt,
-  fold-reads.Asked,
-  fold-reads.Learnt,
-  is-full-reads.Asked,
-  is-full-reads.Learnt,
-  past-reads.Asked,
-  past-reads.Learnt,
-  end-reads.Asked,
-  end-reads.Learnt,
-) (list-at t) list.Post list-Inv-loop list-μ-loop
-list-loop-holds t c = ?
+abbrev μ : list-lts.MeasureT-loop
+μ text at next depth options group table₀ many i₀ behind₀ table i behind = length text - i
 
--- src/nested.rt:160:12
-list-is-end-requires : (t : ℕ) → list-lts.Need-is-end-requires (
-  is-many-reads.Asked,
-  is-many-reads.Learnt,
-  skip-reads.Asked,
-  skip-reads.Learnt,
-  is-end-reads.Asked,
-  is-end-reads.Learnt,
-  is-open-reads.Asked,
-  is-open-reads.Learnt,
-  formula-below t,
-  formula.Post,
-  is-parted-reads.Asked,
-  is-parted-reads.Learnt,
-  fold-reads.Asked,
-  fold-reads.Learnt,
-  is-full-reads.Asked,
-  is-full-reads.Learnt,
-  past-reads.Asked,
-  past-reads.Learnt,
-  end-reads.Asked,
-  end-reads.Learnt,
-) (list-at t) list.Post list-Inv-loop list-μ-loop
-list-is-end-requires t c κs = ?
+module _ (t : ℕ) where
+  -- a symbol
+  leaf-next : formula-lts.Need-leaf-requires (formula-calls t) (formula-at t) formula.Post
+  leaf-next c κs =
+      let value = c .before .before in
+      let begin = value .before .before in
+      let s = begin .before .before .before in
+      let a = s .args in
+      leaf-roomy (a .options) (a .depth) (a .text .now) (a .at) _ _
+      (begin-leaf (a .text .now) (a .at) (a .depth) _ (begin .begin .result) (begin .begin .ensures) _ _ _ (value .value .given .1))
+      (a .next) (s .pre .1) (omega arith)
 
--- src/nested.rt:161:13
-list-is-open-requires : (t : ℕ) → list-lts.Need-is-open-requires (
-  is-many-reads.Asked,
-  is-many-reads.Learnt,
-  skip-reads.Asked,
-  skip-reads.Learnt,
-  is-end-reads.Asked,
-  is-end-reads.Learnt,
-  is-open-reads.Asked,
-  is-open-reads.Learnt,
-  formula-below t,
-  formula.Post,
-  is-parted-reads.Asked,
-  is-parted-reads.Learnt,
-  fold-reads.Asked,
-  fold-reads.Learnt,
-  is-full-reads.Asked,
-  is-full-reads.Learnt,
-  past-reads.Asked,
-  past-reads.Learnt,
-  end-reads.Asked,
-  end-reads.Learnt,
-) (list-at t) list.Post list-Inv-loop list-μ-loop
-list-is-open-requires t c κs = ?
+  leaf-read : formula-lts.Need-returns (formula-calls t) (formula-at t) formula.Post
+  leaf-read c =
+      let leaf = c .before .before in
+      let value = leaf .before .before .before in
+      let begin = value .before .before in
+      let a = begin .before .before .before .args in
+      leaf-done (a .options) (a .depth) (a .text .now) (a .at) _ _
+      (begin-leaf (a .text .now) (a .at) (a .depth) _ (begin .begin .result) (begin .begin .ensures) _ _ _ (value .value .given .1))
+      (leaf .leaf .ensures)
 
--- src/nested.rt:162:13
-list-same-length : (t : ℕ) → list-lts.Need-same-length (
-  is-many-reads.Asked,
-  is-many-reads.Learnt,
-  skip-reads.Asked,
-  skip-reads.Learnt,
-  is-end-reads.Asked,
-  is-end-reads.Learnt,
-  is-open-reads.Asked,
-  is-open-reads.Learnt,
-  formula-below t,
-  formula.Post,
-  is-parted-reads.Asked,
-  is-parted-reads.Learnt,
-  fold-reads.Asked,
-  fold-reads.Learnt,
-  is-full-reads.Asked,
-  is-full-reads.Learnt,
-  past-reads.Asked,
-  past-reads.Learnt,
-  end-reads.Asked,
-  end-reads.Learnt,
-) (list-at t) list.Post list-Inv-loop list-μ-loop
-list-same-length t c = ?
+  -- a group
+  abbrev begin-of : formula-lts.After-group (formula-calls t) (formula-at t) formula.Post
+      → formula-lts.After-begin (formula-calls t) (formula-at t) formula.Post
+  begin-of c = c .before .before
 
--- src/nested.rt:162:13
-list-returns : (t : ℕ) → list-lts.Need-returns (
-  is-many-reads.Asked,
-  is-many-reads.Learnt,
-  skip-reads.Asked,
-  skip-reads.Learnt,
-  is-end-reads.Asked,
-  is-end-reads.Learnt,
-  is-open-reads.Asked,
-  is-open-reads.Learnt,
-  formula-below t,
-  formula.Post,
-  is-parted-reads.Asked,
-  is-parted-reads.Learnt,
-  fold-reads.Asked,
-  fold-reads.Learnt,
-  is-full-reads.Asked,
-  is-full-reads.Learnt,
-  past-reads.Asked,
-  past-reads.Learnt,
-  end-reads.Asked,
-  end-reads.Learnt,
-) (list-at t) list.Post list-Inv-loop list-μ-loop
-list-returns t c = ?
+  opened : (c : formula-lts.After-group (formula-calls t) (formula-at t) formula.Post) →
+      let a = begin-of c .before .before .before .args in
+      OpenTo (a .text .now) (beginIn (a .options) (a .depth) (drop (a .at) (a .text .now))) (c .group .given .0 .0) (a .at)
+      (c .group .given .0 .1 .0) (a .depth)
+  opened c =
+      let begin = begin-of c in
+      let a = begin .before .before .before .args in
+      begin-open (a .text .now) (a .at) (a .depth) _ (begin .begin .result) (begin .begin .ensures) _ _ (c .group .given .1)
 
--- src/nested.rt:164:15
-list-formula-requires : (t : ℕ) → list-lts.Need-formula-requires (
-  is-many-reads.Asked,
-  is-many-reads.Learnt,
-  skip-reads.Asked,
-  skip-reads.Learnt,
-  is-end-reads.Asked,
-  is-end-reads.Learnt,
-  is-open-reads.Asked,
-  is-open-reads.Learnt,
-  formula-below t,
-  formula.Post,
-  is-parted-reads.Asked,
-  is-parted-reads.Learnt,
-  fold-reads.Asked,
-  fold-reads.Learnt,
-  is-full-reads.Asked,
-  is-full-reads.Learnt,
-  past-reads.Asked,
-  past-reads.Learnt,
-  end-reads.Asked,
-  end-reads.Learnt,
-) (list-at t) list.Post list-Inv-loop list-μ-loop
-list-formula-requires t c κs = ?
+  depth-left : formula-lts.Need-sub-list (formula-calls t) (formula-at t) formula.Post
+  depth-left c = opened (c .before) .deep
 
--- src/nested.rt:166:21
-list-enum-known-member : (t : ℕ) → list-lts.Need-enum-known-member (
-  is-many-reads.Asked,
-  is-many-reads.Learnt,
-  skip-reads.Asked,
-  skip-reads.Learnt,
-  is-end-reads.Asked,
-  is-end-reads.Learnt,
-  is-open-reads.Asked,
-  is-open-reads.Learnt,
-  formula-below t,
-  formula.Post,
-  is-parted-reads.Asked,
-  is-parted-reads.Learnt,
-  fold-reads.Asked,
-  fold-reads.Learnt,
-  is-full-reads.Asked,
-  is-full-reads.Learnt,
-  past-reads.Asked,
-  past-reads.Learnt,
-  end-reads.Asked,
-  end-reads.Learnt,
-) (list-at t) list.Post list-Inv-loop list-μ-loop
-list-enum-known-member t c = ?
+  list-next : formula-lts.Need-list-requires (formula-calls t) (formula-at t) formula.Post
+  list-next c κs =
+      let group = c .before .before in
+      let s = begin-of group .before .before .before in
+      let a = s .args in (
+        omega (arith, s .pre .0, opened group .deep),
+        open-readable (a .options) (a .depth) (a .text .now) (a .at) _ _ (opened group) (a .next) (s .pre .1),
+      )
 
--- src/nested.rt:169:21
-list-is-parted-requires : (t : ℕ) → list-lts.Need-is-parted-requires (
-  is-many-reads.Asked,
-  is-many-reads.Learnt,
-  skip-reads.Asked,
-  skip-reads.Learnt,
-  is-end-reads.Asked,
-  is-end-reads.Learnt,
-  is-open-reads.Asked,
-  is-open-reads.Learnt,
-  formula-below t,
-  formula.Post,
-  is-parted-reads.Asked,
-  is-parted-reads.Learnt,
-  fold-reads.Asked,
-  fold-reads.Learnt,
-  is-full-reads.Asked,
-  is-full-reads.Learnt,
-  past-reads.Asked,
-  past-reads.Learnt,
-  end-reads.Asked,
-  end-reads.Learnt,
-) (list-at t) list.Post list-Inv-loop list-μ-loop
-list-is-parted-requires t c κs = ?
+  list-read : formula-lts.Need-returns-2 (formula-calls t) (formula-at t) formula.Post
+  list-read c =
+      let list = c .before .before in
+      let group = list .before .before .before in
+      let a = begin-of group .before .before .before .args in
+      open-told (a .options) (a .depth) (a .text .now) (a .at) _ _ (opened group) (a .table .now) _ (a .next) (list .list .result)
+      (list .list .ensures)
 
--- src/nested.rt:170:21
-list-same-length-2 : (t : ℕ) → list-lts.Need-same-length-2 (
-  is-many-reads.Asked,
-  is-many-reads.Learnt,
-  skip-reads.Asked,
-  skip-reads.Learnt,
-  is-end-reads.Asked,
-  is-end-reads.Learnt,
-  is-open-reads.Asked,
-  is-open-reads.Learnt,
-  formula-below t,
-  formula.Post,
-  is-parted-reads.Asked,
-  is-parted-reads.Learnt,
-  fold-reads.Asked,
-  fold-reads.Learnt,
-  is-full-reads.Asked,
-  is-full-reads.Learnt,
-  past-reads.Asked,
-  past-reads.Learnt,
-  end-reads.Asked,
-  end-reads.Learnt,
-) (list-at t) list.Post list-Inv-loop list-μ-loop
-list-same-length-2 t c = ?
+  no-formula : formula-lts.Need-returns-3 (formula-calls t) (formula-at t) formula.Post
+  no-formula c =
+      let place = c .before in
+      let begin = place .before .before in
+      let a = begin .before .before .before .args in
+      let w = begin-wrong (a .text .now) (a .at) (a .depth) _ (begin .begin .result) (begin .begin .ensures) _ (place .place .given .1) in
+      record {
+        at = record {
+          out = formula-wrong (a .options) (a .depth) (drop (a .at) (a .text .now)) _ (w .out);
+          within = w .within;
+        };
+        same = refl;
+      }
 
--- src/nested.rt:170:21
-list-returns-2 : (t : ℕ) → list-lts.Need-returns-2 (
-  is-many-reads.Asked,
-  is-many-reads.Learnt,
-  skip-reads.Asked,
-  skip-reads.Learnt,
-  is-end-reads.Asked,
-  is-end-reads.Learnt,
-  is-open-reads.Asked,
-  is-open-reads.Learnt,
-  formula-below t,
-  formula.Post,
-  is-parted-reads.Asked,
-  is-parted-reads.Learnt,
-  fold-reads.Asked,
-  fold-reads.Learnt,
-  is-full-reads.Asked,
-  is-full-reads.Learnt,
-  past-reads.Asked,
-  past-reads.Learnt,
-  end-reads.Asked,
-  end-reads.Learnt,
-) (list-at t) list.Post list-Inv-loop list-μ-loop
-list-returns-2 t c = ?
+  -- the loop
+  starts : list-lts.Need-loop-holds (list-calls t) (list-at t) list.Post Inv μ
+  starts c =
+      let s = c .before .before .before .before in
+      let a = s .args in
+      group-start (a .options) (a .depth) (a .group) (a .text .now) (a .table .now) (a .at) (a .next) (s .pre .1 .within) (c .skip .ensures)
 
--- src/nested.rt:172:17
-list-fold-requires : (t : ℕ) → list-lts.Need-fold-requires (
-  is-many-reads.Asked,
-  is-many-reads.Learnt,
-  skip-reads.Asked,
-  skip-reads.Learnt,
-  is-end-reads.Asked,
-  is-end-reads.Learnt,
-  is-open-reads.Asked,
-  is-open-reads.Learnt,
-  formula-below t,
-  formula.Post,
-  is-parted-reads.Asked,
-  is-parted-reads.Learnt,
-  fold-reads.Asked,
-  fold-reads.Learnt,
-  is-full-reads.Asked,
-  is-full-reads.Learnt,
-  past-reads.Asked,
-  past-reads.Learnt,
-  end-reads.Asked,
-  end-reads.Learnt,
-) (list-at t) list.Post list-Inv-loop list-μ-loop
-list-fold-requires t c κs = ?
+  abbrev many-of : list-lts.At-loop (list-calls t) (list-at t) list.Post Inv μ → list-lts.After-is-many (list-calls t) (list-at t) list.Post Inv μ
+  many-of c = c .before .before
 
--- src/nested.rt:173:17
-list-skip-requires-2 : (t : ℕ) → list-lts.Need-skip-requires-2 (
-  is-many-reads.Asked,
-  is-many-reads.Learnt,
-  skip-reads.Asked,
-  skip-reads.Learnt,
-  is-end-reads.Asked,
-  is-end-reads.Learnt,
-  is-open-reads.Asked,
-  is-open-reads.Learnt,
-  formula-below t,
-  formula.Post,
-  is-parted-reads.Asked,
-  is-parted-reads.Learnt,
-  fold-reads.Asked,
-  fold-reads.Learnt,
-  is-full-reads.Asked,
-  is-full-reads.Learnt,
-  past-reads.Asked,
-  past-reads.Learnt,
-  end-reads.Asked,
-  end-reads.Learnt,
-) (list-at t) list.Post list-Inv-loop list-μ-loop
-list-skip-requires-2 t c κs = ?
+  abbrev start-of : list-lts.At-loop (list-calls t) (list-at t) list.Post Inv μ → list-lts.Start (list-calls t) (list-at t) list.Post Inv μ
+  start-of c = many-of c .before .before .before
 
--- src/nested.rt:160:5
-list-loop-less : (t : ℕ) → list-lts.Need-loop-less (
-  is-many-reads.Asked,
-  is-many-reads.Learnt,
-  skip-reads.Asked,
-  skip-reads.Learnt,
-  is-end-reads.Asked,
-  is-end-reads.Learnt,
-  is-open-reads.Asked,
-  is-open-reads.Learnt,
-  formula-below t,
-  formula.Post,
-  is-parted-reads.Asked,
-  is-parted-reads.Learnt,
-  fold-reads.Asked,
-  fold-reads.Learnt,
-  is-full-reads.Asked,
-  is-full-reads.Learnt,
-  past-reads.Asked,
-  past-reads.Learnt,
-  end-reads.Asked,
-  end-reads.Learnt,
-) (list-at t) list.Post list-Inv-loop list-μ-loop
-list-loop-less t c = ?
+  -- the group goes on: whether it takes a member more
+  goes-on : (c : list-lts.Then1 (list-calls t) (list-at t) list.Post Inv μ) →
+      let a = start-of (c .before .before) .args in endsAt (a .group) (drop (c .before .before .loop .i) (a .text .now)) ≡ false
+  goes-on c = sym (c .before .is-end .ensures) ∙ not-true (c .before .is-end .result) (c .if1 .taken)
 
--- src/nested.rt:160:5
-list-loop-again : (t : ℕ) → list-lts.Need-loop-again (
-  is-many-reads.Asked,
-  is-many-reads.Learnt,
-  skip-reads.Asked,
-  skip-reads.Learnt,
-  is-end-reads.Asked,
-  is-end-reads.Learnt,
-  is-open-reads.Asked,
-  is-open-reads.Learnt,
-  formula-below t,
-  formula.Post,
-  is-parted-reads.Asked,
-  is-parted-reads.Learnt,
-  fold-reads.Asked,
-  fold-reads.Learnt,
-  is-full-reads.Asked,
-  is-full-reads.Learnt,
-  past-reads.Asked,
-  past-reads.Learnt,
-  end-reads.Asked,
-  end-reads.Learnt,
-) (list-at t) list.Post list-Inv-loop list-μ-loop
-list-loop-again t c = ?
+  abbrev loop-of : list-lts.After-is-open (list-calls t) (list-at t) list.Post Inv μ → list-lts.At-loop (list-calls t) (list-at t) list.Post Inv μ
+  loop-of c = c .before .before .before
 
--- src/nested.rt:175:27
-list-enum-known-place : (t : ℕ) → list-lts.Need-enum-known-place (
-  is-many-reads.Asked,
-  is-many-reads.Learnt,
-  skip-reads.Asked,
-  skip-reads.Learnt,
-  is-end-reads.Asked,
-  is-end-reads.Learnt,
-  is-open-reads.Asked,
-  is-open-reads.Learnt,
-  formula-below t,
-  formula.Post,
-  is-parted-reads.Asked,
-  is-parted-reads.Learnt,
-  fold-reads.Asked,
-  fold-reads.Learnt,
-  is-full-reads.Asked,
-  is-full-reads.Learnt,
-  past-reads.Asked,
-  past-reads.Learnt,
-  end-reads.Asked,
-  end-reads.Learnt,
-) (list-at t) list.Post list-Inv-loop list-μ-loop
-list-enum-known-place t c = ?
+  taking : (c : list-lts.After-is-open (list-calls t) (list-at t) list.Post Inv μ) →
+      let loop = loop-of c in c .is-open .result ≡ takes (start-of loop .args .group) (loop .loop .inv .part)
+  taking c =
+      let loop = loop-of c in
+      let a = start-of loop .args in
+      takes-by (a .options) (a .depth) (a .group) (a .text .now) (a .table .now) (a .at) (a .next) (loop .loop .inv)
+      (many-of loop .is-many .result) (c .is-open .result) (many-of loop .is-many .ensures) (c .is-open .ensures)
 
--- src/nested.rt:175:38
-list-same-length-3 : (t : ℕ) → list-lts.Need-same-length-3 (
-  is-many-reads.Asked,
-  is-many-reads.Learnt,
-  skip-reads.Asked,
-  skip-reads.Learnt,
-  is-end-reads.Asked,
-  is-end-reads.Learnt,
-  is-open-reads.Asked,
-  is-open-reads.Learnt,
-  formula-below t,
-  formula.Post,
-  is-parted-reads.Asked,
-  is-parted-reads.Learnt,
-  fold-reads.Asked,
-  fold-reads.Learnt,
-  is-full-reads.Asked,
-  is-full-reads.Learnt,
-  past-reads.Asked,
-  past-reads.Learnt,
-  end-reads.Asked,
-  end-reads.Learnt,
-) (list-at t) list.Post list-Inv-loop list-μ-loop
-list-same-length-3 t c = ?
+  no-more : list-lts.Need-returns (list-calls t) (list-at t) list.Post Inv μ
+  no-more c =
+      let test = c .before in
+      let loop = loop-of test in
+      let a = start-of loop .args in
+      group-over (a .options) (a .depth) (a .group) (a .text .now) (a .table .now) (a .at) (a .next) (loop .loop .inv)
+      (goes-on (test .before)) (sym (taking test) ∙ not-true (test .is-open .result) (c .if2 .taken))
 
--- src/nested.rt:175:38
-list-returns-3 : (t : ℕ) → list-lts.Need-returns-3 (
-  is-many-reads.Asked,
-  is-many-reads.Learnt,
-  skip-reads.Asked,
-  skip-reads.Learnt,
-  is-end-reads.Asked,
-  is-end-reads.Learnt,
-  is-open-reads.Asked,
-  is-open-reads.Learnt,
-  formula-below t,
-  formula.Post,
-  is-parted-reads.Asked,
-  is-parted-reads.Learnt,
-  fold-reads.Asked,
-  fold-reads.Learnt,
-  is-full-reads.Asked,
-  is-full-reads.Learnt,
-  past-reads.Asked,
-  past-reads.Learnt,
-  end-reads.Asked,
-  end-reads.Learnt,
-) (list-at t) list.Post list-Inv-loop list-μ-loop
-list-returns-3 t c = ?
+  -- a member
+  abbrev open-of : list-lts.Else2 (list-calls t) (list-at t) list.Post Inv μ → list-lts.After-is-open (list-calls t) (list-at t) list.Post Inv μ
+  open-of c = c .before
 
--- src/nested.rt:178:9
-list-is-full-requires : (t : ℕ) → list-lts.Need-is-full-requires (
-  is-many-reads.Asked,
-  is-many-reads.Learnt,
-  skip-reads.Asked,
-  skip-reads.Learnt,
-  is-end-reads.Asked,
-  is-end-reads.Learnt,
-  is-open-reads.Asked,
-  is-open-reads.Learnt,
-  formula-below t,
-  formula.Post,
-  is-parted-reads.Asked,
-  is-parted-reads.Learnt,
-  fold-reads.Asked,
-  fold-reads.Learnt,
-  is-full-reads.Asked,
-  is-full-reads.Learnt,
-  past-reads.Asked,
-  past-reads.Learnt,
-  end-reads.Asked,
-  end-reads.Learnt,
-) (list-at t) list.Post list-Inv-loop list-μ-loop
-list-is-full-requires t c κs = ?
+  takes-one : (c : list-lts.Else2 (list-calls t) (list-at t) list.Post Inv μ) →
+      let loop = loop-of (open-of c) in takes (start-of loop .args .group) (loop .loop .inv .part) ≡ true
+  takes-one c = sym (taking (open-of c)) ∙ not-false (open-of c .is-open .result) (c .if2 .left)
 
--- src/nested.rt:179:9
-list-same-length-4 : (t : ℕ) → list-lts.Need-same-length-4 (
-  is-many-reads.Asked,
-  is-many-reads.Learnt,
-  skip-reads.Asked,
-  skip-reads.Learnt,
-  is-end-reads.Asked,
-  is-end-reads.Learnt,
-  is-open-reads.Asked,
-  is-open-reads.Learnt,
-  formula-below t,
-  formula.Post,
-  is-parted-reads.Asked,
-  is-parted-reads.Learnt,
-  fold-reads.Asked,
-  fold-reads.Learnt,
-  is-full-reads.Asked,
-  is-full-reads.Learnt,
-  past-reads.Asked,
-  past-reads.Learnt,
-  end-reads.Asked,
-  end-reads.Learnt,
-) (list-at t) list.Post list-Inv-loop list-μ-loop
-list-same-length-4 t c = ?
+  formula-next : list-lts.Need-formula-requires (list-calls t) (list-at t) list.Post Inv μ
+  formula-next c κs =
+      let loop = loop-of (open-of (c .before)) in
+      let s = start-of loop in
+      let a = s .args in (
+        omega (arith, s .pre .0),
+        group-readable (a .options) (a .depth) (a .group) (a .text .now) (a .table .now) (a .at) (a .next) (loop .loop .inv)
+            (s .pre .1 .few),
+      )
 
--- src/nested.rt:179:9
-list-returns-4 : (t : ℕ) → list-lts.Need-returns-4 (
-  is-many-reads.Asked,
-  is-many-reads.Learnt,
-  skip-reads.Asked,
-  skip-reads.Learnt,
-  is-end-reads.Asked,
-  is-end-reads.Learnt,
-  is-open-reads.Asked,
-  is-open-reads.Learnt,
-  formula-below t,
-  formula.Post,
-  is-parted-reads.Asked,
-  is-parted-reads.Learnt,
-  fold-reads.Asked,
-  fold-reads.Learnt,
-  is-full-reads.Asked,
-  is-full-reads.Learnt,
-  past-reads.Asked,
-  past-reads.Learnt,
-  end-reads.Asked,
-  end-reads.Learnt,
-) (list-at t) list.Post list-Inv-loop list-μ-loop
-list-returns-4 t c = ?
+  abbrev else-of : list-lts.After-slice-known2 (list-calls t) (list-at t) list.Post Inv μ → list-lts.Else2 (list-calls t) (list-at t) list.Post Inv μ
+  else-of c = c .before .before .before .before
 
--- src/nested.rt:181:9
-list-past-requires : (t : ℕ) → list-lts.Need-past-requires (
-  is-many-reads.Asked,
-  is-many-reads.Learnt,
-  skip-reads.Asked,
-  skip-reads.Learnt,
-  is-end-reads.Asked,
-  is-end-reads.Learnt,
-  is-open-reads.Asked,
-  is-open-reads.Learnt,
-  formula-below t,
-  formula.Post,
-  is-parted-reads.Asked,
-  is-parted-reads.Learnt,
-  fold-reads.Asked,
-  fold-reads.Learnt,
-  is-full-reads.Asked,
-  is-full-reads.Learnt,
-  past-reads.Asked,
-  past-reads.Learnt,
-  end-reads.Asked,
-  end-reads.Learnt,
-) (list-at t) list.Post list-Inv-loop list-μ-loop
-list-past-requires t c κs = ?
+  abbrev known-of : list-lts.After-known-told (list-calls t) (list-at t) list.Post Inv μ → list-lts.After-slice-known2 (list-calls t) (list-at t) list.Post Inv μ
+  known-of c = c .before .before .before
 
--- src/nested.rt:184:15
-list-end-requires : (t : ℕ) → list-lts.Need-end-requires (
-  is-many-reads.Asked,
-  is-many-reads.Learnt,
-  skip-reads.Asked,
-  skip-reads.Learnt,
-  is-end-reads.Asked,
-  is-end-reads.Learnt,
-  is-open-reads.Asked,
-  is-open-reads.Learnt,
-  formula-below t,
-  formula.Post,
-  is-parted-reads.Asked,
-  is-parted-reads.Learnt,
-  fold-reads.Asked,
-  fold-reads.Learnt,
-  is-full-reads.Asked,
-  is-full-reads.Learnt,
-  past-reads.Asked,
-  past-reads.Learnt,
-  end-reads.Asked,
-  end-reads.Learnt,
-) (list-at t) list.Post list-Inv-loop list-μ-loop
-list-end-requires t c κs = ?
+  member : (c : list-lts.After-known-told (list-calls t) (list-at t) list.Post Inv μ) →
+      let formula = known-of c .before .before in
+      let loop = loop-of (open-of (else-of (known-of c))) in
+      let a = start-of loop .args in
+      DoneTo (a .text .now) (loop .loop .table) (loop .loop .i) (loop .loop .behind)
+      (formulaIn (a .options) (a .depth) (drop (loop .loop .i) (a .text .now))) (c .before .member .given .0 .0)
+      (c .before .member .given .0 .1 .0) (formula .formula .last .1 .1 .1 .1 .1 .0)
+  member c =
+      let formula = known-of c .before .before in
+      let loop = loop-of (open-of (else-of (known-of c))) in
+      let a = start-of loop .args in
+      told-done (a .text .now) (loop .loop .table) (loop .loop .i) (loop .loop .behind) _ (formula .formula .result) _
+      (formula .formula .ensures) _ _ (c .before .member .given .1)
 
--- src/nested.rt:144:1
-list-same-length-5 : (t : ℕ) → list-lts.Need-same-length-5 (
-  is-many-reads.Asked,
-  is-many-reads.Learnt,
-  skip-reads.Asked,
-  skip-reads.Learnt,
-  is-end-reads.Asked,
-  is-end-reads.Learnt,
-  is-open-reads.Asked,
-  is-open-reads.Learnt,
-  formula-below t,
-  formula.Post,
-  is-parted-reads.Asked,
-  is-parted-reads.Learnt,
-  fold-reads.Asked,
-  fold-reads.Learnt,
-  is-full-reads.Asked,
-  is-full-reads.Learnt,
-  past-reads.Asked,
-  past-reads.Learnt,
-  end-reads.Asked,
-  end-reads.Learnt,
-) (list-at t) list.Post list-Inv-loop list-μ-loop
-list-same-length-5 t c = ?
+  unparted : list-lts.Need-returns-2 (list-calls t) (list-at t) list.Post Inv μ
+  unparted c =
+      let test = c .before in
+      let known = test .before in
+      let else = else-of (known-of known) in
+      let loop = loop-of (open-of else) in
+      let a = start-of loop .args in
+      group-unparted (a .options) (a .depth) (a .group) (a .text .now) (a .table .now) (a .at) (a .next) (loop .loop .inv)
+      (goes-on (open-of else .before)) (takes-one else) (member known)
+      (sym (test .is-parted .ensures) ∙ not-true (test .is-parted .result) (c .if3 .taken))
 
--- src/nested.rt:144:1
-list-returns-5 : (t : ℕ) → list-lts.Need-returns-5 (
-  is-many-reads.Asked,
-  is-many-reads.Learnt,
-  skip-reads.Asked,
-  skip-reads.Learnt,
-  is-end-reads.Asked,
-  is-end-reads.Learnt,
-  is-open-reads.Asked,
-  is-open-reads.Learnt,
-  formula-below t,
-  formula.Post,
-  is-parted-reads.Asked,
-  is-parted-reads.Learnt,
-  fold-reads.Asked,
-  fold-reads.Learnt,
-  is-full-reads.Asked,
-  is-full-reads.Learnt,
-  past-reads.Asked,
-  past-reads.Learnt,
-  end-reads.Asked,
-  end-reads.Learnt,
-) (list-at t) list.Post list-Inv-loop list-μ-loop
-list-returns-5 t c = ?
+  fold-next : list-lts.Need-fold-requires (list-calls t) (list-at t) list.Post Inv μ
+  fold-next c κs =
+      let known = c .before .before .before in
+      let else = else-of (known-of known) in
+      let loop = loop-of (open-of else) in
+      let s = start-of loop in
+      let a = s .args in
+      group-folding (a .options) (a .depth) (a .group) (a .text .now) (a .table .now) (a .at) (a .next) (loop .loop .inv)
+      (goes-on (open-of else .before)) (takes-one else) (member known) (s .pre .1 .few) (omega arith)
+
+  abbrev fold-of : list-lts.After-skip2 (list-calls t) (list-at t) list.Post Inv μ → list-lts.After-fold (list-calls t) (list-at t) list.Post Inv μ
+  fold-of c = c .before .before .before
+
+  abbrev known-in : list-lts.After-fold (list-calls t) (list-at t) list.Post Inv μ → list-lts.After-known-told (list-calls t) (list-at t) list.Post Inv μ
+  known-in c = c .before .before .before .before
+
+  less : list-lts.Need-loop-less (list-calls t) (list-at t) list.Post Inv μ
+  less c =
+      let known = known-in (fold-of c) in
+      let else = else-of (known-of known) in
+      let loop = loop-of (open-of else) in
+      let a = start-of loop .args in
+      let on = ahead (a .options) (a .depth) (a .group) (a .text .now) (a .table .now) (a .at) (a .next) (loop .loop .inv)
+      (goes-on (open-of else .before)) (takes-one else) (member known) in
+      omega (arith, on, c .skip2 .ensures .onward, member known .to .within)
+
+  again : list-lts.Need-loop-again (list-calls t) (list-at t) list.Post Inv μ
+  again c =
+      let fold = fold-of c in
+      let test = fold .before .before in
+      let known = known-in fold in
+      let else = else-of (known-of known) in
+      let loop = loop-of (open-of else) in
+      let a = start-of loop .args in
+      group-next (a .options) (a .depth) (a .group) (a .text .now) (a .table .now) (a .at) (a .next) (loop .loop .inv)
+      (goes-on (open-of else .before)) (takes-one else) (member known) (fold .fold .ensures)
+      (sym (test .before .is-parted .ensures) ∙ not-false (test .before .is-parted .result) (test .if3 .left)) (c .skip2 .ensures)
+
+  no-member : list-lts.Need-returns-3 (list-calls t) (list-at t) list.Post Inv μ
+  no-member c =
+      let place = c .before in
+      let known = place .before .before in
+      let formula = known .before .before in
+      let else = else-of known in
+      let loop = loop-of (open-of else) in
+      let a = start-of loop .args in
+      group-wrong (a .options) (a .depth) (a .group) (a .text .now) (a .table .now) (a .at) (a .next) (loop .loop .inv)
+      (goes-on (open-of else .before)) (takes-one else)
+      (told-wrong (a .text .now) (loop .loop .table) (loop .loop .i) (loop .loop .behind) _ (formula .formula .result) _
+      (formula .formula .ensures) _ (place .place .given .1))
+
+  -- the group ends: whether it has its members
+  ends-here : (c : list-lts.Else1 (list-calls t) (list-at t) list.Post Inv μ) →
+      let a = start-of (c .before .before) .args in endsAt (a .group) (drop (c .before .before .loop .i) (a .text .now)) ≡ true
+  ends-here c = sym (c .before .is-end .ensures) ∙ not-false (c .before .is-end .result) (c .if1 .left)
+
+  abbrev loop-in : list-lts.After-is-full (list-calls t) (list-at t) list.Post Inv μ → list-lts.At-loop (list-calls t) (list-at t) list.Post Inv μ
+  loop-in c = c .before .before .before
+
+  filling : (c : list-lts.After-is-full (list-calls t) (list-at t) list.Post Inv μ) →
+      let loop = loop-in c in c .is-full .result ≡ isFull (start-of loop .args .group) (loop .loop .inv .part)
+  filling c =
+      let loop = loop-in c in
+      let a = start-of loop .args in
+      full-by (a .options) (a .depth) (a .group) (a .text .now) (a .table .now) (a .at) (a .next) (loop .loop .inv)
+      (many-of loop .is-many .result) (c .is-full .result) (many-of loop .is-many .ensures) (c .is-full .ensures)
+
+  lacks : list-lts.Need-returns-4 (list-calls t) (list-at t) list.Post Inv μ
+  lacks c =
+      let full = c .before in
+      let loop = loop-in full in
+      let a = start-of loop .args in
+      group-lacks (a .options) (a .depth) (a .group) (a .text .now) (a .table .now) (a .at) (a .next) (loop .loop .inv)
+      (ends-here (full .before)) (sym (filling full) ∙ not-true (full .is-full .result) (c .if4 .taken))
+
+  past-next : list-lts.Need-past-requires (list-calls t) (list-at t) list.Post Inv μ
+  past-next c κs =
+      let full = c .before in
+      let loop = loop-in full in
+      let a = start-of loop .args in
+      record {
+        last = λ n.
+            let h = closes-within (a .options) (a .depth) (a .group) (a .text .now) (a .table .now) (a .at) (a .next) (loop .loop .inv)
+            (ends-here (full .before)) n in
+            omega (arith, h);
+      }
+
+  has-all : (c : list-lts.Else4 (list-calls t) (list-at t) list.Post Inv μ) →
+      let loop = loop-in (c .before) in isFull (start-of loop .args .group) (loop .loop .inv .part) ≡ true
+  has-all c = sym (filling (c .before)) ∙ not-false (c .before .is-full .result) (c .if4 .left)
+
+  end-next : list-lts.Need-end-requires (list-calls t) (list-at t) list.Post Inv μ
+  end-next c κs =
+      let else = c .before .before in
+      let full = else .before in
+      let loop = loop-in full in
+      let s = start-of loop in
+      let a = s .args in
+      group-ending (a .options) (a .depth) (a .group) (a .text .now) (a .table .now) (a .at) (a .next) (loop .loop .inv)
+      (ends-here (full .before)) (has-all else) (s .pre .1 .few) (omega arith)
+
+  done : list-lts.Need-returns-5 (list-calls t) (list-at t) list.Post Inv μ
+  done c =
+      let end = c .before .before in
+      let past = end .before .before in
+      let else = past .before in
+      let full = else .before in
+      let loop = loop-in full in
+      let a = start-of loop .args in
+      group-done (a .options) (a .depth) (a .group) (a .text .now) (a .table .now) (a .at) (a .next) (loop .loop .inv)
+      (ends-here (full .before)) (has-all else) (past .past .ensures) (end .end .ensures)
 
 pub +formula+list-spec : {M : Type 1} → statement M
-+formula+list-spec = close μ-formula μ-list (λ t. formula-lts.spec (
-  begin-reads.Asked,
-  begin-reads.Learnt,
-  leaf-reads.Asked,
-  leaf-reads.Learnt,
-  list-below t,
-  list.Post,
-)
-    (formula-at t)
-    formula.Post
-    (formula-begin-requires t)
-    (formula-enum-known-value t)
-    (formula-leaf-requires t)
-    (formula-enum-known-group t)
-    (formula-sub-list t)
-    (formula-list-requires t)
-    (formula-enum-known-place t)
-    (formula-same-length t)
-    (formula-returns t)
-    (formula-same-length-2 t)
-    (formula-returns-2 t)
-    (formula-returns-3 t))
-    λ t. list-lts.spec (
-      is-many-reads.Asked,
-      is-many-reads.Learnt,
-      skip-reads.Asked,
-      skip-reads.Learnt,
-      is-end-reads.Asked,
-      is-end-reads.Learnt,
-      is-open-reads.Asked,
-      is-open-reads.Learnt,
-      formula-below t,
-      formula.Post,
-      is-parted-reads.Asked,
-      is-parted-reads.Learnt,
-      fold-reads.Asked,
-      fold-reads.Learnt,
-      is-full-reads.Asked,
-      is-full-reads.Learnt,
-      past-reads.Asked,
-      past-reads.Learnt,
-      end-reads.Asked,
-      end-reads.Learnt,
-    )
-    (list-at t)
-    list.Post
-    list-Inv-loop
-    list-μ-loop
-    (list-is-many-requires t)
-    (list-skip-requires t)
-    (list-loop-holds t)
-    (list-is-end-requires t)
-    (list-is-open-requires t)
-    (list-same-length t)
-    (list-returns t)
-    (list-formula-requires t)
-    (list-enum-known-member t)
-    (list-is-parted-requires t)
-    (list-same-length-2 t)
-    (list-returns-2 t)
-    (list-fold-requires t)
-    (list-skip-requires-2 t)
-    (list-loop-less t)
-    (list-loop-again t)
-    (list-enum-known-place t)
-    (list-same-length-3 t)
-    (list-returns-3 t)
-    (list-is-full-requires t)
-    (list-same-length-4 t)
-    (list-returns-4 t)
-    (list-past-requires t)
-    (list-end-requires t)
-    (list-same-length-5 t)
-    (list-returns-5 t)
++formula+list-spec =
+    close μ-formula μ-list
+    (λ t. formula-lts.spec (formula-calls t) (formula-at t) formula.Post
+    (λ c κs. c .before .before .pre .1 .within)
+    (λ c. search needs)
+    (leaf-next t)
+    (λ c. search needs)
+    (depth-left t)
+    (list-next t)
+    (λ c. search needs)
+    (λ c. search needs)
+    (leaf-read t)
+    (λ c. search needs)
+    (list-read t)
+    (no-formula t))
+    λ t. list-lts.spec (list-calls t) (list-at t) list.Post Inv μ
+    (λ c κs. search needs)
+    (λ c κs. c .before .before .before .pre .1 .within)
+    (starts t)
+    (λ c κs. c .loop .inv .within)
+    (λ c κs. search needs)
+    (λ c. search needs)
+    (no-more t)
+    (formula-next t)
+    (λ c. search needs)
+    (λ c κs. member t c .to .within)
+    (λ c. search needs)
+    (unparted t)
+    (fold-next t)
+    (λ c κs. member t (known-in t (c .before .before)) .to .within)
+    (less t)
+    (again t)
+    (λ c. search needs)
+    (λ c. search needs)
+    (no-member t)
+    (λ c κs. search needs)
+    (λ c. search needs)
+    (lacks t)
+    (past-next t)
+    (end-next t)
+    (λ c. search needs)
+    (done t)

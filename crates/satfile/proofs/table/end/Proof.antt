@@ -1,7 +1,8 @@
 -- `satfile::table::end` meets its contract: each group adds what the definition says. Assumes nothing.
-use mathlib.Core.Path.{sym}
+use mathlib.Core.Path.{ap}
 use native.Mathlib.Omega.{arith}
 use borrow.Author.Needs.{needs}
+use Rattle.satfile.specs.Inner.Reads.{isWhole}
 use Rattle.satfile.proofs.Laws.Stores.{end-and, end-or, end-one, end-not, end-whole, child-of-not}
 use Rattle.satfile.proofs.table.end.Statement.{statement}
 use Rattle.satfile.proofs.table.end.Tie as tie
@@ -43,19 +44,38 @@ whole c =
     let a = c .before .before .before .args in
     end-whole (a .next) (a .behind) (a .table .now) (c .enum-told5 .given .1)
 
+-- there is a number for a node more
+all-roomy : tie.Need-empty-requires
+all-roomy c κs =
+    let told = c .before in
+    let s = told .before .before .before in
+    record { last = s .pre .last (ap isWhole (told .enum-told .given .1)) }
+
+any-roomy : tie.Need-empty-requires-2
+any-roomy c κs =
+    let told = c .before in
+    let s = told .before .before .before in
+    record { last = s .pre .last (ap isWhole (told .enum-told2 .given .1)) }
+
+not-roomy : tie.Need-add-result
+not-roomy c =
+    let told = c .before .before .before .before in
+    let s = told .before .before .before in
+    omega (arith, s .pre .last (ap isWhole (told .enum-told4 .given .1)))
+
 pub end-spec : {M : Type 1} → statement M
 end-spec =
     tie.close
     (tie.spec
     (λ c. search needs)
-    (λ c κs. search needs)
+    all-roomy
     (λ c. search needs)
-    (λ c κs. search needs)
+    any-roomy
     (λ c. search needs)
     (λ c. search needs)
     child
     (λ c κs. search needs)
-    (λ c. search needs)
+    not-roomy
     (λ c. search needs)
     (λ c. search needs)
     all

@@ -1,4 +1,5 @@
 -- `satfile::table::fold` meets its contract: the first member is joined to nothing. Assumes nothing.
+use native.Mathlib.Omega.{arith}
 use borrow.Author.Needs.{needs}
 use Rattle.satfile.proofs.Laws.Stores.{fold-alone, fold-joined}
 use Rattle.satfile.proofs.table.fold.Statement.{statement}
@@ -17,6 +18,11 @@ joined c =
     let a = else .before .before .args in
     fold-joined (a .group) (a .next) (a .behind) (a .after) (else .if1 .left) (joining .joining .ensures) (put .put .ensures)
 
+roomy : tie.Need-add-result
+roomy c =
+    let else = c .before .before .before .before .before in
+    omega (arith, else .before .before .pre .last (else .if1 .left))
+
 pub fold-spec : {M : Type 1} → statement M
 fold-spec =
     tie.close
@@ -26,6 +32,6 @@ fold-spec =
     (λ c. search needs)
     (λ c. search needs)
     (λ c κs. search needs)
-    (λ c. search needs)
+    roomy
     (λ c. search needs)
     joined)
