@@ -4,3 +4,4 @@ pub mod Rests
 pub mod Stores
 pub mod Tells
 pub mod Groups
+pub mod Calls
