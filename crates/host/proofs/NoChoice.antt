@@ -25,6 +25,8 @@ use Rattle.host.proofs.simbolufa_write_dimacs.Kinds as write-dimacs-kin
 use Rattle.host.proofs.simbolufa_write_dimacs.Reads as write-dimacs
 use Rattle.host.proofs.simbolufa_read_dimacs.Kinds as read-dimacs-kinds
 use Rattle.host.proofs.simbolufa_read_dimacs.Reads as read-dimacs
+use Rattle.host.proofs.simbolufa_read_sat.Kinds as read-sat-kinds
+use Rattle.host.proofs.simbolufa_read_sat.Reads as read-sat
 
 pub check-settled : (κs : Lfts 2) (a : Dens κs check-kinds.ps) (r q : resT check-kinds.r κs .Denot)
     (s t : AtExit (endedOf 2 check-kinds.ps check-kinds.r) κs) → check.Post κs a r s → check.Post κs a q t
@@ -72,3 +74,8 @@ pub read-dimacs-settled : (κs : Lfts 3) (a : Dens κs read-dimacs-kinds.ps) (r 
     (s t : AtExit (endedOf 3 read-dimacs-kinds.ps read-dimacs-kinds.r) κs) → read-dimacs.Post κs a r s → read-dimacs.Post κs a q t
     → (r ≡ q) × (now (s .1 .0) ≡ now (t .1 .0)) × (now (s .1 .1 .0) ≡ now (t .1 .1 .0))
 read-dimacs-settled κs a r q s t e f = left-settled e f
+
+pub read-sat-settled : (κs : Lfts 3) (a : Dens κs read-sat-kinds.ps) (r q : resT read-sat-kinds.r κs .Denot)
+    (s t : AtExit (endedOf 3 read-sat-kinds.ps read-sat-kinds.r) κs) → read-sat.Post κs a r s → read-sat.Post κs a q t
+    → (r ≡ q) × (now (s .1 .0) ≡ now (t .1 .0)) × (now (s .1 .1 .0) ≡ now (t .1 .1 .0))
+read-sat-settled κs a r q s t e f = left-settled e f

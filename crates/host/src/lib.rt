@@ -8,6 +8,7 @@ ghost use Rattle.clausal.specs.Calls.{measured, chosenBy, converted, convertedA
 ghost use Rattle.origin.specs.Calls.{originCall, originsCall};
 ghost use Rattle.dimacs.specs.Texts.{writeCall};
 ghost use Rattle.dimacs.specs.Inner.Calls.{readCall};
+ghost use Rattle.satfile.specs.Inner.Calls as satfile;
 use answer::give;
 use answer::is_part_wrong;
 
@@ -195,4 +196,17 @@ pub extern "C" fn simbolufa_read_dimacs(text: &[u8], clauses: &mut [u8], answer:
         return 11;
     }
     give(dimacs::read(text, clauses), answer)
+}
+
+// Reads a `p sat` text as the table of its formula: the options and the nodes are reported.
+#[no_mangle]
+pub extern "C" fn simbolufa_read_sat(text: &[u8], table: &mut [u8], answer: &mut [u8]) -> u32
+    ensures { λ r. ⌜ record { result = r; output = now (table .exit); part = now (answer .exit) }
+        ≡ leaves (now (answer .entry)) (now (table .entry))
+        (satfile.readCall (now (text .entry)) (now (table .entry))) ⌝ }
+{
+    if is_part_wrong(answer) {
+        return 11;
+    }
+    give(satfile::read(text, table), answer)
 }

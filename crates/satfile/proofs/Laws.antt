@@ -3,5 +3,5 @@ pub mod Records
 pub mod Rests
 pub mod Stores
 pub mod Tells
-pub mod Groups
+pub mod Turns
 pub mod Calls

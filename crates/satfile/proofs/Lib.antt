@@ -1,3 +1,5 @@
 -- Laws and theorems of the reader of `p sat` texts.
 pub mod Laws
+pub mod Cases
+pub mod NoChoice
 pub mod Tables
