@@ -1,14 +1,14 @@
 -- What a host sees of a call of each entry: a call is whatever the entry's contract allows, as the check reads it (`Reads.Post`).
 -- Assumes nothing: these are definitions.
 use mathlib.Core.List.{List, [], _∷_, _++_}
-use Prim.Native.Nat.{ℕ}
-use lib.ListN.{length, getD, drop}
+use Prim.Native.Nat.{ℕ, _*_}
+use lib.ListN.{length, getD, take, drop}
 use contract.Lifetimes.{Lfts}
 use denote.Ref.{now}
 use denote.Triple.Clauses.{AtExit}
 use borrow.Fn.Kinds.{PK, RK, Dens, Out, endedOf, resT}
 use Rattle.laws.specs.Numbers.{littleAt}
-use Rattle.formula.specs.Tables.{nodesOf}
+use Rattle.formula.specs.Tables.{nodeBytes, nodesOf}
 use Rattle.formula.specs.declared.node.Node.{Node}
 use Rattle.clausal.specs.Clauses.{Renaming, renaming}
 use Rattle.host.proofs.simbolufa_check.Kinds as check-kinds
@@ -29,6 +29,8 @@ use Rattle.host.proofs.simbolufa_write_dimacs.Kinds as write-kinds
 use Rattle.host.proofs.simbolufa_write_dimacs.Reads as write
 use Rattle.host.proofs.simbolufa_read_dimacs.Kinds as read-kinds
 use Rattle.host.proofs.simbolufa_read_dimacs.Reads as read
+use Rattle.host.proofs.simbolufa_read_sat.Kinds as sat-kinds
+use Rattle.host.proofs.simbolufa_read_sat.Reads as sat
 
 -- the arguments, what is returned, what is lent as it stands at the end, and the contract's word for it
 pub record Call {n : ℕ} (ps : List (PK n)) (r : RK n) (Post : Out n ps r) : Type 0 where
@@ -242,3 +244,23 @@ readSeen c = record {
 
 abbrev pub textOf : Read → List ℕ
 textOf c = now (c .args .0)
+
+-- `simbolufa_read_sat`
+abbrev pub ReadSat : Type 0
+ReadSat = Call sat-kinds.ps sat-kinds.r sat.Post
+
+abbrev pub satSeen : ReadSat → Seen (List ℕ)
+satSeen c = record {
+  returned = c .result;
+  before = now (c .args .1 .0);
+  after = now (c .exit .1 .0);
+  part = now (c .args .1 .1 .0);
+  told = now (c .exit .1 .1 .0);
+}
+
+abbrev pub satText : ReadSat → List ℕ
+satText c = now (c .args .0)
+
+-- R21.19, R21.20: the bytes of the table that an accepted call has left: five for each node that is reported
+abbrev pub tableLeft : ReadSat → List ℕ
+tableLeft c = take (nodeBytes * second (satSeen c)) (satSeen c .after)

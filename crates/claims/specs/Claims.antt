@@ -1,19 +1,21 @@
--- What was asked for, said of the nine entries over their contracts as the check reads them, in the order of the demands (R15).
+-- What was asked for, said of the ten entries over their contracts as the check reads them, in the order of the demands (R15).
 -- `Calls` says what a host sees of a call. The proofs are in `proofs/`. Assumes nothing: these are statements.
 use mathlib.Core.Bool.{Bool, true, false}
 use mathlib.Core.List.{List, [], _∷_, _++_}
 use mathlib.Core.Logic.{_≢_}
 use mathlib.Core.Path.{_≡_}
-use Prim.Native.Nat.{ℕ, _≤_, _<_}
+use Prim.Native.Nat.{ℕ, _*_, _≤_, _<_}
 use lib.Dec.{T}
 use lib.ListN.{length, getD, take, replicate}
 use Rattle.laws.specs.Lists.{Every}
-use Rattle.answer.specs.Answers.{toldOf, bytesOf, refused}
+use Rattle.laws.specs.Automata.{Longest}
+use Rattle.laws.specs.Numbers.{cap}
+use Rattle.answer.specs.Answers.{mostShown, toldOf, bytesOf, refused}
 use Rattle.answer.specs.declared.Answer.{Answer}
 use Rattle.answer.specs.declared.Answer.the-variants.{Accepted}
 use Rattle.formula.specs.Checks.{lengthWrong, checked}
 use Rattle.marks.specs.Sets.{renamed}
-use Rattle.formula.specs.Tables.{mostOptions, nodeAt, nodeCount, nodeIn, faultOf}
+use Rattle.formula.specs.Tables.{nodeBytes, mostNodes, mostOptions, nodeAt, nodeCount, nodesOf, nodeIn, faultOf}
 use Rattle.formula.specs.Truths.{formulaTrue}
 use Rattle.formula.specs.declared.node.Kind.the-variants.{Symbol}
 use Rattle.clausal.specs.Totals.{Choice, choose, totalUnder, totals}
@@ -28,11 +30,15 @@ use Rattle.origin.specs.Origins.{Source, sourceOf, Comes, fieldsOf, lineOf, lin
 use Rattle.origin.specs.Calls.{originCall, originsCall}
 use Rattle.dimacs.specs.Texts.{writeCall, Text, writtenText}
 use Rattle.dimacs.specs.Inner.Calls.{readCall}
+use Rattle.satfile.specs.Trees.{Tree, sizeOf, treeTrue, tableOf}
+use Rattle.satfile.specs.Texts as formula
+use Rattle.satfile.specs.Inner.Calls as satfile
 use Rattle.claims.specs.Calls.{Seen, first, second, Guard, nodes, names, Check, checkSeen, checkGuard, Measure, measureSeen}
 use Rattle.claims.specs.Calls.{measureGuard, Choose, chooseSeen, chooseGuard, allowance, Convert, convertSeen, convertGuard}
 use Rattle.claims.specs.Calls.{ConvertAfter, afterSeen, afterGuard, guards, guardIn, Write, writeSeen, clauseBytes, declared, Read}
 use Rattle.claims.specs.Calls.{readSeen, textOf, over, Origin, originSeen, originGuard, clauseAsked, optionNames, helperNames}
 use Rattle.claims.specs.Calls.{Origins, originsSeen, originsGuard, originsOptionNames, originsHelperNames}
+use Rattle.claims.specs.Calls.{ReadSat, satSeen, satText, tableLeft}
 
 -- Demand 1. That every call ends (R15.2) is what the check proves of each entry: its `Statement.statement`, which is the kit's
 -- `denote.Triple.Spec.Meets`. No entry has a `requires`, and what never returns meets no such contract (the kit's `no-contract-hang`).
@@ -62,6 +68,8 @@ pub record Demand1 : Type 0 where
       (originsSeen c)
   pub write : (c : Write) → Answers (writeCall (clauseBytes c) (declared c) (writeSeen c .before) .answer) (writeSeen c)
   pub read : (c : Read) → Answers (readCall (textOf c) (readSeen c .before) .answer) (readSeen c)
+  -- R21.16 to R21.18: refusal 17 for a text that is wrong, 18 for too many nodes, and 7
+  pub readSat : (c : ReadSat) → Answers (satfile.readCall (satText c) (satSeen c .before) .answer) (satSeen c)
 
 -- R10.24: the length of a table and V are right, and its lowest faulty node is j
 pub record Faulty (g : Guard) (j : ℕ) : Type 0 where
@@ -98,8 +106,8 @@ written g = clausesBytes (outputOf (names g) (nodes g))
 abbrev pub decoded : Guard → List Clause
 decoded g = clausesOf (written g)
 
--- Demand 2, R15.5: where 0 is returned, totals, set, clauses, lines and text are those of the rules; a text that is read is in the
--- grammar. R6.4, R19.15: what writes clauses or their lines tells the variables and the clauses
+-- Demand 2, R15.5: where 0 is returned, totals, set, clauses, lines, text and table are those of the rules; a text that is read is in
+-- the grammar. R6.4, R19.15: what writes clauses or their lines tells the variables and the clauses
 abbrev pub Writes : Guard → List ℕ → Seen (List ℕ) → Type 0
 Writes g bytes s = Gives s (variablesOf (names g) (length (nodes g))) (length (outputOf (names g) (nodes g))) (over bytes (s .before))
 
@@ -125,12 +133,32 @@ pub record Demand2 : Type 0 where
       Gives (writeSeen c) (declared c) (length cs) (over (writtenText (declared c) cs) (writeSeen c .before))
   pub read : (c : Read) → readSeen c .returned ≡ 0 → (v : ℕ) × (cs : List Clause) × Text v cs (textOf c)
       × Gives (readSeen c) v (length cs) (over (clausesBytes cs) (readSeen c .before))
+  -- R21.9 to R21.14, R21.20: the table of the formula that the text stands for
+  pub readSat : (c : ReadSat) → satSeen c .returned ≡ 0 → (v : ℕ) × (t : Tree) × formula.Text v t (satText c) × (sizeOf t ≤ mostNodes)
+      × Gives (satSeen c) v (sizeOf t) (over (tableOf t) (satSeen c .before))
   -- R15.6: the text that a call has written is read, given room, as the same clause bytes with the same two values
   pub roundTrip : (w : Write) (r : Read) → writeSeen w .returned ≡ 0
       → textOf r ≡ take (length (writtenText (declared w) (clausesOf (clauseBytes w)))) (writeSeen w .after)
       → length (clauseBytes w) ≤ length (readSeen r .before) → length (readSeen r .part) ≡ 16
       → (readSeen r .returned ≡ 0) × (readSeen r .told ≡ writeSeen w .told)
       × (readSeen r .after ≡ over (clauseBytes w) (readSeen r .before))
+
+-- R21.15 to R21.22: which texts of formulas are accepted, and what an accepted call leaves
+pub record Formulas : Type 0 where
+  -- R21.16, R21.17: with room, a text of the grammar is accepted where its formula has nodes enough, and else it is 18
+  pub accepts : (c : ReadSat) (v : ℕ) (t : Tree) → formula.Text v t (satText c) → sizeOf t ≤ mostNodes
+      → nodeBytes * sizeOf t ≤ length (satSeen c .before) → length (satSeen c .part) ≡ 16 → satSeen c .returned ≡ 0
+  pub many : (c : ReadSat) (v : ℕ) (t : Tree) → formula.Text v t (satText c) → mostNodes < sizeOf t → length (satSeen c .part) ≡ 16
+      → satSeen c .returned ≡ 18
+  -- R21.16: any other text is 17, with the length of the longest beginning that it shares with an accepted one
+  pub refuses : (c : ReadSat) (k : ℕ) → (formula.Accepted (satText c) → ⊥) → Longest formula.Accepted (satText c) k
+      → length (satSeen c .part) ≡ 16 → (satSeen c .returned ≡ 17) × (satSeen c .told ≡ bytesOf (refused 17 (cap mostShown k)))
+  -- R21.22: the table that is left is accepted with the V that is told
+  pub passes : (c : ReadSat) (d : Check) → satSeen c .returned ≡ 0 → checkGuard d .table ≡ tableLeft c
+      → checkGuard d .options ≡ first (satSeen c) → length (checkSeen d .part) ≡ 16 → checkSeen d .returned ≡ 0
+  -- R21.15: in every row the truth of that table is the truth of the text
+  pub true : (c : ReadSat) → satSeen c .returned ≡ 0 → (v : ℕ) (t : Tree) → formula.Text v t (satText c) → (ρ : ℕ → Bool)
+      → formulaTrue ρ (nodesOf (tableLeft c)) ≡ treeTrue ρ t
 
 -- line j of a buffer, without its newline; and clause k of the bytes that a conversion has left
 abbrev pub lineIn : List ℕ → ℕ → List ℕ
