@@ -1,4 +1,5 @@
 -- Laws of the reader, by subject.
+pub mod Outcomes
 pub mod Records
 pub mod Rests
 pub mod Stores
