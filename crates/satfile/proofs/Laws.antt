@@ -1,5 +1,6 @@
 -- Laws of the reader, by subject.
 pub mod Groups
+pub mod Members
 pub mod Numerals
 pub mod Outcomes
 pub mod Records

@@ -4,7 +4,7 @@
 -- Assumes nothing.
 use mathlib.Core.Path.{_≡_, refl, sym, ap, _∙_, subst, subst⁻¹}
 use mathlib.Core.Bool.{Bool, true, false, cond, not, _||_, false≢true}
-use mathlib.Core.List.{List, [], _∷_, _++_, append-assoc}
+use mathlib.Core.List.{List, [], _∷_, _++_, append-assoc, append-nil}
 use Prim.Native.Nat.{ℕ, zero, suc, _+_, _≤_, _<_}
 use native.Mathlib.Omega.{arith}
 use lib.Dec.{eqb}
@@ -19,7 +19,8 @@ use Rattle.satfile.specs.Inner.Reads.{endsAt, behind, withOne, groupTree
 use Rattle.satfile.specs.Inner.Reads as reads
 use Rattle.satfile.specs.declared.lead.Group.{Group}
 use Rattle.satfile.proofs.Laws.Rests.{taken, left}
-use Rattle.satfile.proofs.Laws.Outcomes.{Same, empty, first, same-refl, same-behind, Word, Some, Outcome, good, wrong, none, passed}
+use Rattle.satfile.proofs.Laws.Outcomes.{Same, empty, first, same-refl, same-behind, same-split, Word, Some, Outcome, good, wrong, none}
+use Rattle.satfile.proofs.Laws.Outcomes.{passed}
 
 -- a reader of one thing: how it stops; that it reads what its language has, where something follows that may; and that no such thing
 -- begins with what may follow
@@ -38,7 +39,7 @@ pub data Rest (Inside : Tree → List ℕ → List ℕ → Type 0) (g : Group) :
       → Rest Inside g true p t l r
 
 -- tests of a group
-or-right : (b : Bool) → (b || true) ≡ true
+pub or-right : (b : Bool) → (b || true) ≡ true
 or-right true = refl
 or-right false = refl
 
@@ -51,7 +52,7 @@ module _ (g : Group) where
   full-with-one reads.none t = or-right (isMany g)
   full-with-one (reads.some s) t = or-right (isMany g)
 
-  full-unless-takes : (p : Partly) → takes g p ≡ false → isFull g p ≡ true
+  pub full-unless-takes : (p : Partly) → takes g p ≡ false → isFull g p ≡ true
   full-unless-takes reads.none e = absurd (false≢true (sym e ∙ or-right (isMany g)))
   full-unless-takes (reads.some s) e = or-right (isMany g)
 
@@ -64,67 +65,61 @@ module _ (g : Group) where
   one-unless-full (reads.some s) e = absurd (false≢true (sym e ∙ or-right (isMany g)))
 
   -- tests of a text look at its first byte only
-  same-ends : {l r : List ℕ} → Same l r → endsAt g r ≡ endsAt g l
+  pub same-ends : {l r : List ℕ} → Same l r → endsAt g r ≡ endsAt g l
   same-ends empty = refl
   same-ends first = refl
 
-same-parted : {l r : List ℕ} → Same l r → isParted r ≡ isParted l
+pub same-parted : {l r : List ℕ} → Same l r → isParted r ≡ isParted l
 same-parted empty = refl
 same-parted first = refl
 
 -- a text that does not begin with white space, and any that begins like it
-abbrev Settled : List ℕ → Type 0
+abbrev pub Settled : List ℕ → Type 0
 Settled l = (r : List ℕ) → Same l r → skipped r ≡ r
 
-settled-empty : Settled []
+pub settled-empty : Settled []
 unfolding skipped
 settled-empty [] empty = refl
 
-settled-byte : (b : ℕ) (l : List ℕ) → isSpace b ≡ false → Settled (b ∷ l)
+pub settled-byte : (b : ℕ) (l : List ℕ) → isSpace b ≡ false → Settled (b ∷ l)
 unfolding skipped
 settled-byte b l e r first = left _ _ _ e
 
-skipped-white : (b : ℕ) (l : List ℕ) → isSpace b ≡ true → skipped (b ∷ l) ≡ skipped l
+pub skipped-white : (b : ℕ) (l : List ℕ) → isSpace b ≡ true → skipped (b ∷ l) ≡ skipped l
 unfolding skipped
 skipped-white b l e = taken _ _ _ e
 
 -- one step of the reader of a group, in each case
 module _ (inner : List ℕ → Out Tree) (g : Group) (p : Partly) (l : List ℕ) where
   module _ (e : endsAt g l ≡ true) where
-    group-full : isFull g p ≡ true → (n : ℕ) → 0 < n → groupFrom inner g n p l ≡ Read (groupTree g p) (behind g l)
+    pub group-full : isFull g p ≡ true → (n : ℕ) → 0 < n → groupFrom inner g n p l ≡ Read (groupTree g p) (behind g l)
     unfolding groupFrom
     group-full f zero h = absurd (omega arith)
     group-full f (suc n) h = taken _ _ _ e ∙ taken _ _ _ f
 
-    group-lacks : isFull g p ≡ false → (n : ℕ) → 0 < n → groupFrom inner g n p l ≡ Bad l
+    pub group-lacks : isFull g p ≡ false → (n : ℕ) → 0 < n → groupFrom inner g n p l ≡ Bad l
     unfolding groupFrom
     group-lacks f zero h = absurd (omega arith)
     group-lacks f (suc n) h = taken _ _ _ e ∙ left _ _ _ f
 
   module _ (e : endsAt g l ≡ false) where
-    group-sated : takes g p ≡ false → (n : ℕ) → 0 < n → groupFrom inner g n p l ≡ Bad l
+    pub group-sated : takes g p ≡ false → (n : ℕ) → 0 < n → groupFrom inner g n p l ≡ Bad l
     unfolding groupFrom
     group-sated f zero h = absurd (omega arith)
     group-sated f (suc n) h = left _ _ _ e ∙ left _ _ _ f
 
     module _ (f : takes g p ≡ true) where
-      abbrev on : ℕ → Tree → List ℕ → Out Tree
+      abbrev pub on : ℕ → Tree → List ℕ → Out Tree
       on n t r = cond (isParted r) (groupFrom inner g n (withOne g p t) (skipped r)) (Bad r)
 
-      group-wrong : (r : List ℕ) → inner l ≡ Bad r → (n : ℕ) → 0 < n → groupFrom inner g n p l ≡ Bad r
+      pub group-wrong : (r : List ℕ) → inner l ≡ Bad r → (n : ℕ) → 0 < n → groupFrom inner g n p l ≡ Bad r
       unfolding groupFrom
       group-wrong r q zero h = absurd (omega arith)
       group-wrong r q (suc n) h = left _ _ _ e ∙ taken _ _ _ f ∙ ap (andThen (on n)) q
 
-      group-close : (t : Tree) (r : List ℕ) → inner l ≡ Read t r → isParted r ≡ false → (n : ℕ) → 0 < n → groupFrom inner g n p l ≡ Bad r
+      pub group-on : (t : Tree) (r : List ℕ) → inner l ≡ Read t r → (n : ℕ) → groupFrom inner g (suc n) p l ≡ on n t r
       unfolding groupFrom
-      group-close t r q i zero h = absurd (omega arith)
-      group-close t r q i (suc n) h = left _ _ _ e ∙ taken _ _ _ f ∙ ap (andThen (on n)) q ∙ left _ _ _ i
-
-      group-on : (t : Tree) (r : List ℕ) → inner l ≡ Read t r → isParted r ≡ true
-          → (n : ℕ) → groupFrom inner g (suc n) p l ≡ groupFrom inner g n (withOne g p t) (skipped r)
-      unfolding groupFrom
-      group-on t r q i n = left _ _ _ e ∙ taken _ _ _ f ∙ ap (andThen (on n)) q ∙ taken _ _ _ i
+      group-on t r q n = left _ _ _ e ∙ taken _ _ _ f ∙ ap (andThen (on n)) q
 
 -- what finishes a group: its end, behind a member where one is lacking
 module _ (Inside : Tree → List ℕ → List ℕ → Type 0) (g : Group) where
@@ -135,7 +130,7 @@ module _ (Inside : Tree → List ℕ → List ℕ → Type 0) (g : Group) where
       go true e = record { value = groupTree g p; rest = []; word = λ r. end e f }
       go false e = record { value = groupTree g p; rest = 41 ∷ []; word = λ r. close e f }
 
-  behind-member : (p : Partly) → takes g p ≡ true → (w : List ℕ) → Some Inside w → Some (Rest Inside g true p) w
+  pub behind-member : (p : Partly) → takes g p ≡ true → (w : List ℕ) → Some Inside w → Some (Rest Inside g true p) w
   behind-member p h w s =
       let c = closes false (withOne g p (s .value)) (full-with-one g p (s .value)) in
       let q : (r : List ℕ) → w ++ s .rest ++ (c .rest ++ r) ≡ w ++ (s .rest ++ c .rest) ++ r = λ r. simp append-assoc in

@@ -27,7 +27,7 @@ pub same-behind : (p : List ℕ) {l r : List ℕ} → Same l r → Same (p ++ l)
 same-behind [] s = s
 same-behind (b ∷ p) s = first
 
-same-split : (p : List ℕ) {l r s : List ℕ} → l ≡ p ++ r → Same r s → Same l (p ++ s)
+pub same-split : (p : List ℕ) {l r s : List ℕ} → l ≡ p ++ r → Same r s → Same l (p ++ s)
 same-split p {s = s} e h = subst⁻¹ (λ (x : List ℕ). Same x (p ++ s)) e (same-behind p h)
 
 -- w is an a, whatever follows; and p begins some such word
