@@ -16,7 +16,7 @@ use Rattle.satfile.specs.Inner.Reads.{Out, Read, Bad, isSpace, skipped, 
 use Rattle.satfile.specs.Inner.Reads.{endsAt, behind, withOne, groupTree, isParted, groupFrom}
 use Rattle.satfile.specs.declared.lead.Group.{Group}
 use Rattle.satfile.proofs.Laws.Rests.{taken, left}
-use Rattle.satfile.proofs.Laws.Outcomes.{Same, empty, first, same-split, Word, Some, Outcome, good, wrong, none, passed}
+use Rattle.satfile.proofs.Laws.Outcomes.{Same, empty, first, same-refl, same-split, Word, Some, Outcome, good, wrong, none, passed, sound}
 use Rattle.satfile.proofs.Laws.Groups.{Matches, Rest, close, end, white, member, or-right, full-unless-takes, same-ends, same-parted}
 use Rattle.satfile.proofs.Laws.Groups.{Settled, settled-empty, settled-byte, skipped-white}
 use Rattle.satfile.proofs.Laws.Groups.{group-full, group-lacks, group-sated, group-wrong, group-on, behind-member, finishes}
@@ -48,6 +48,11 @@ module _ {inner : List ℕ → Out Tree} {Inside : Tree → List ℕ → List �
   not-parted : (c : ℕ) (q l : List ℕ) → Some Inside (c ∷ q) → isParted (c ∷ l) ≡ true → ⊥
   not-parted c q l s e = false≢true (sym (m .starts (s .value) _ [] (s .word [])) ∙ e)
 
+  -- and a member takes a byte
+  shorter : (u : Tree) (q s : List ℕ) → Word Inside u q → length s < length (q ++ s)
+  shorter u [] s w = absurd (false≢true (sym (m .starts u [] [] (w []))))
+  shorter u (c ∷ q) s w = omega (arith, length-append q s)
+
   no-member : (l : List ℕ) → isParted l ≡ true → (s : List ℕ) → Same l s → inner s ≡ Bad s
   no-member l e = go (m .stops l)
     where
@@ -56,6 +61,18 @@ module _ {inner : List ℕ → Out Tree} {Inside : Tree → List ℕ → List �
       go (wrong [] r d k w) = λ s h. k s (subst (λ (x : List ℕ). Same x s) d h)
       go (wrong (c ∷ q) r d k w) = absurd (not-parted c q (q ++ r) w (ap isParted (sym d) ∙ e))
       go (none k) = k
+
+-- what begins a member is no white space, and ends no group
+settled-begun : (l : List ℕ) → isParted l ≡ false → Settled l
+settled-begun [] e = settled-empty
+settled-begun (c ∷ l) e = settled-byte c l (neither (eqb c 41) (isSpace c) e .1)
+
+begun-ends : (g : Group) (l : List ℕ) → isParted l ≡ false → endsAt g l ≡ false
+begun-ends g l e = go (endsAt g l) refl
+  where
+    go : (b : Bool) → endsAt g l ≡ b → endsAt g l ≡ false
+    go true h = absurd (false≢true (sym e ∙ parted-end g l h))
+    go false h = h
 
 -- how the reader stops where no white space comes first
 module _ {inner : List ℕ → Out Tree} {Inside : Tree → List ℕ → List ℕ → Type 0} (m : Matches inner Inside) (g : Group) (p : Partly) where
@@ -111,10 +128,6 @@ module _ {inner : List ℕ → Out Tree} {Inside : Tree → List ℕ → List �
         goes-on u q s h i j o k (suc z) n =
             ap (groupFrom inner g (suc z) p) (t (q ++ s) h) ∙ group-on inner g p (q ++ s) (same-ends g h ∙ e) f u s i z ∙ k z (omega arith)
 
-        shorter : (u : Tree) (q s : List ℕ) → Word Inside u q → length s < length (q ++ s)
-        shorter u [] s w = absurd (false≢true (sym (m .starts u [] [] (w []))))
-        shorter u (c ∷ q) s w = omega (arith, length-append q s)
-
         stop-member : ((u : Tree) (r : List ℕ) → length r < length l
             → Outcome (Gives inner g false (withOne g p u)) (Rest Inside g false (withOne g p u)) r)
             → Outcome (λ k o. inner k ≡ o) Inside l → Outcome (Gives inner g true p) (Rest Inside g true p) l
@@ -126,10 +139,10 @@ module _ {inner : List ℕ → Out Tree} {Inside : Tree → List ℕ → List �
             at-once true (q ++ s) (Bad s) refl (t (q ++ s) i) (group-wrong inner g p (q ++ s) (same-ends g i ∙ e) f s (k s h)))
             (behind-member Inside g p f q w)
         stop-member next (good u q r d k w) =
-            let j = subst⁻¹ (λ (x : List ℕ). length r < length x) d (shorter u q r w) in
+            let j = subst⁻¹ (λ (x : List ℕ). length r < length x) d (shorter m u q r w) in
             let z = behind-member Inside g p f q (record { value = u; rest = []; word = subst⁻¹ (Word Inside u) (append-nil q) w }) in
             subst⁻¹ (Outcome (Gives inner g true p) (Rest Inside g true p)) d
-            (passed q r (λ s o h i. goes-on u q s (same-split q d h) (k s h) (shorter u q s w) o i)
+            (passed q r (λ s o h i. goes-on u q s (same-split q d h) (k s h) (shorter m u q s w) o i)
             (λ v x y s. subst⁻¹ (λ (a : List ℕ). Rest Inside g true p v a s) (append-assoc q x s) (member f (w (x ++ s)) (y s)))
             z (next u r j))
 
@@ -170,3 +183,35 @@ module _ {inner : List ℕ → Out Tree} {Inside : Tree → List ℕ → List �
           → Outcome (Gives inner g b p) (Rest Inside g b p) (c ∷ l)
       go true e after next = stop-white b p c l e after
       go false e after next = stop-settled b p (c ∷ l) (settled-byte c l e) next
+
+-- the reader reads what may stand in the group; of a whole text nothing may follow
+module _ {inner : List ℕ → Out Tree} {Inside : Tree → List ℕ → List ℕ → Type 0} (m : Matches inner Inside) (g : Group) where
+  rest-parted : {p : Partly} {t : Tree} {l r : List ℕ} → (isWhole g ≡ true → r ≡ []) → Rest Inside g false p t l r → isParted l ≡ true
+  rest-parted h (close w f) = refl
+  rest-parted h (end w f) = ap isParted (h w)
+  rest-parted h (white {c = c} w d) = parted-white c (white-class w)
+
+  member-on : (p : Partly) (s : Tree) (l r : List ℕ) → takes g p ≡ true → Inside s l r → isParted r ≡ true → (o : Out Tree)
+      → Gives inner g false (withOne g p s) r o → Gives inner g true p l o
+  member-on p s l r f i j o k zero n = absurd (omega arith)
+  member-on p s l r f i j o k (suc z) n =
+      let b = m .starts s l r i in
+      let q = m .whole s l r i j in
+      let w = sound (m .stops l) s r q in
+      let x : length r < length l = subst⁻¹ (λ (y : List ℕ). length r < length y) (w .1) (shorter m s (w .0) r (w .2)) in
+      ap (groupFrom inner g (suc z) p) (settled-begun l b l (same-refl l))
+      ∙ group-on inner g p l (begun-ends g l b) f s r q z ∙ k z (omega arith)
+
+  pub group-whole : {b : Bool} {p : Partly} {t : Tree} {l r : List ℕ} → (isWhole g ≡ true → r ≡ []) → Rest Inside g b p t l r
+      → Gives inner g b p l (Read t r)
+  group-whole {b} {p} {r = r} h (close w f) =
+      at-once m g p b (41 ∷ r) _ (either m g p b refl) (settled-byte 41 r refl (41 ∷ r) first)
+      (λ n i. group-full inner g p (41 ∷ r) (left _ _ _ w) f n i ∙ ap (Read (groupTree g p)) (left _ _ _ w))
+  group-whole {b} {p} h (end w f) =
+      subst⁻¹ (λ (x : List ℕ). Gives inner g b p x (Read (groupTree g p) x)) (h w) (end-empty m g p b w f [] empty)
+  group-whole {b} {p} h (white {c = c} {l = l} w d) = λ n i.
+      let e = white-class w in
+      taken _ _ _ (either m g p b (parted-white c e)) ∙ ap (groupFrom inner g n p) (skipped-white c l e)
+      ∙ group-whole h d n (omega arith)
+  group-whole {p = p} {t} {l} {r} h (member {s = s} {m = k} f i d) =
+      member-on p s l k f i (rest-parted h d) (Read t r) (group-whole h d)
