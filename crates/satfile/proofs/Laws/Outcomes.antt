@@ -46,6 +46,20 @@ pub data Outcome {A : Type 0} (Gives : List ℕ → Out A → Type 0) (L : A →
   wrong : (p r : List ℕ) → l ≡ p ++ r → ((s : List ℕ) → Same r s → Gives (p ++ s) (Bad s)) → Some L p → Outcome Gives L l
   none : ((s : List ℕ) → Same l s → Gives s (Bad s)) → Outcome Gives L l
 
+-- a reader that fails before the first byte
+module _ {A : Type 0} (f : List ℕ → Out A) {L : A → List ℕ → List ℕ → Type 0} where
+  pub none-empty : f [] ≡ Bad [] → Outcome (λ m o. f m ≡ o) L []
+  none-empty e = none go
+    where
+      go : (s : List ℕ) → Same [] s → f s ≡ Bad s
+      go [] empty = e
+
+  pub none-first : (b : ℕ) (l : List ℕ) → ((r : List ℕ) → f (b ∷ r) ≡ Bad (b ∷ r)) → Outcome (λ m o. f m ≡ o) L (b ∷ l)
+  none-first b l e = none go
+    where
+      go : (s : List ℕ) → Same (b ∷ l) s → f s ≡ Bad s
+      go s (first {r = r}) = e r
+
 -- a reader that goes on as another one behind p
 split-behind : (p q r : List ℕ) {l : List ℕ} → l ≡ q ++ r → p ++ l ≡ p ++ q ++ r
 split-behind p q r e = ap (λ (x : List ℕ). p ++ x) e ∙ sym (append-assoc p q r)
