@@ -1,4 +1,5 @@
 -- Laws of the reader, by subject.
+pub mod Bodies
 pub mod Formulas
 pub mod Grammars
 pub mod Groups

@@ -116,6 +116,12 @@ module _ {A : Type 0} {f : List ℕ → Out A} {L : A → List ℕ → List ℕ 
       let z : _≡_ {A = ℕ} 0 1 = cc in
       absurd (omega arith)
 
+  -- nothing is left but what was there
+  pub left-within : {l : List ℕ} → Outcome (λ m o. f m ≡ o) L l → length (leftOf (f l)) ≤ length l
+  left-within {l} (good a p r e g w) = omega (arith, length-append p r, ap length e, ap (λ o. length (leftOf o)) (ap f e ∙ g r (same-refl r)))
+  left-within {l} (wrong p r e g w) = omega (arith, length-append p r, ap length e, ap (λ o. length (leftOf o)) (ap f e ∙ g r (same-refl r)))
+  left-within {l} (none g) = omega (arith, ap (λ o. length (leftOf o)) (g l (same-refl l)))
+
 -- the whole texts of a language
 abbrev pub Whole : {A : Type 0} → (A → List ℕ → List ℕ → Type 0) → List ℕ → Type 0
 Whole {A} L x = (a : A) × L a x []
