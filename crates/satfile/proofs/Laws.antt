@@ -1,4 +1,11 @@
 -- Laws of the reader, by subject.
+pub mod Bodies
+pub mod Formulas
+pub mod Grammars
+pub mod Groups
+pub mod Members
+pub mod Numerals
+pub mod Outcomes
 pub mod Records
 pub mod Rests
 pub mod Stores

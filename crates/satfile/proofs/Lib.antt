@@ -2,4 +2,5 @@
 pub mod Laws
 pub mod Cases
 pub mod NoChoice
+pub mod Reading
 pub mod Tables
