@@ -28,15 +28,18 @@ use Rattle.origin.specs.Origins.{lineOf, linesOf}
 use Rattle.dimacs.specs.Texts.{writeCall, writtenText}
 use Rattle.dimacs.specs.Inner.Calls.{readCall}
 use Rattle.dimacs.proofs.RoundTrip.{reads-what-writes}
+use Rattle.satfile.specs.Inner.Calls as satfile
 use Rattle.claims.specs.Calls.{first, second, Guard, nodes, names, guards, Check, checkSeen, checkGuard, Measure, measureSeen}
 use Rattle.claims.specs.Calls.{measureGuard, Choose, chooseSeen, chooseGuard, allowance, Convert, convertSeen, convertGuard}
 use Rattle.claims.specs.Calls.{ConvertAfter, afterSeen, afterGuard, Write, writeSeen, clauseBytes, declared, Read, readSeen, textOf}
 use Rattle.claims.specs.Calls.{over, Origin, originSeen, originGuard, clauseAsked, optionNames, helperNames}
 use Rattle.claims.specs.Calls.{Origins, originsSeen, originsGuard, originsOptionNames, originsHelperNames}
+use Rattle.claims.specs.Calls.{ReadSat, satSeen, satText}
 use Rattle.claims.specs.Claims.{Demand1, Demand2, Demand3, Chain, none, next}
 use Rattle.claims.proofs.Answered.{answers, Zero, zero, gives, first-told, second-told, stored-room}
 use Rattle.claims.proofs.Outputs.{measured-accepted, chosen-kept, chosen-accepted, Passed, convert-kept, convert-passed}
 use Rattle.claims.proofs.Outputs.{after-kept, after-passed, write-kept, write-accepted, read-kept, read-accepted}
+use Rattle.claims.proofs.Outputs.{sat-kept, sat-accepted}
 use Rattle.claims.proofs.Origins.{Told, origin-kept, origin-told, origins-kept, origins-told}
 use Rattle.claims.proofs.Meanings.{few-variables, means}
 use Rattle.claims.proofs.Chains.{Follows, nothing, guard, together}
@@ -71,6 +74,9 @@ writeWrote c = writeCall (clauseBytes c) (declared c) (writeSeen c .before)
 abbrev readWrote : Read → Wrote (List ℕ)
 readWrote c = readCall (textOf c) (readSeen c .before)
 
+abbrev pub satWrote : ReadSat → Wrote (List ℕ)
+satWrote c = satfile.readCall (satText c) (satSeen c .before)
+
 pub demand1 : Demand1
 demand1 = record {
   check = λ c. answers (checkSeen c) (checkWrote c) (c .promise) (λ e. refl);
@@ -87,6 +93,7 @@ demand1 = record {
       (origins-kept (g .table) (g .options) (g .set) (originsOptionNames c) (originsHelperNames c) (originsSeen c .before));
   write = λ c. answers (writeSeen c) (writeWrote c) (c .promise .0) (write-kept (clauseBytes c) (declared c) (writeSeen c .before));
   read = λ c. answers (readSeen c) (readWrote c) (c .promise) (read-kept (textOf c) (readSeen c .before));
+  readSat = λ c. answers (satSeen c) (satWrote c) (c .promise) (sat-kept (satText c) (satSeen c .before));
 }
 
 -- where 0 is returned
@@ -193,6 +200,9 @@ demand2 = record {
   read = λ c z. let d = zero (readSeen c) (readWrote c) (c .promise) z in
       let a = read-accepted (textOf c) (readSeen c .before) (d .accepted) in
       (a .0, a .1, a .2, gives (readSeen c) (readWrote c) (c .promise) _ _ _ d (a .3));
+  readSat = λ c z. let d = zero (satSeen c) (satWrote c) (c .promise) z in
+      let a = sat-accepted (satText c) (satSeen c .before) (d .accepted) in
+      (a .0, a .1, a .2, a .3, gives (satSeen c) (satWrote c) (c .promise) _ _ _ d (a .4));
   roundTrip = back;
 }
 

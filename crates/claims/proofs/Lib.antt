@@ -7,3 +7,4 @@ pub mod Chains
 pub mod Demands
 pub mod Faults
 pub mod Sources
+pub mod Formulas

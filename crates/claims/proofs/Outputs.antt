@@ -6,15 +6,16 @@ use mathlib.Core.Bool.{Bool, true, false}
 use mathlib.Core.List.{List, []}
 use Prim.Native.Nat.{ℕ, _≤_}
 use native.Mathlib.Omega.{arith}
-use lib.Dec.{eqb}
+use lib.Dec.{eqb, ltb}
 use lib.ListN.{length}
+use borrow.Author.Tests.{ltb-false}
 use Rattle.answer.specs.Answers.{refuses, Wrote, afterwards, stored}
 use Rattle.answer.specs.declared.Answer.the-variants as answer
 use Rattle.answer.specs.declared.Answer.the-variants.{Accepted, ClauseBytes}
 use Rattle.answer.proofs.Laws.Order.{Kept, kept-afterwards, kept-stored, accepted-afterwards}
 use Rattle.formula.specs.Checks.{checked}
 use Rattle.marks.specs.Sets.{setChecked}
-use Rattle.formula.specs.Tables.{mostOptions, nodesOf}
+use Rattle.formula.specs.Tables.{mostNodes, mostOptions, nodesOf}
 use Rattle.formula.specs.declared.node.Node.{Node}
 use Rattle.marks.proofs.Laws.Sets.{set-accepted}
 use Rattle.formula.proofs.Laws.WellFormed.{checked-accepted}
@@ -28,6 +29,11 @@ use Rattle.dimacs.specs.Texts.{writeCall, Text, writtenText}
 use Rattle.dimacs.specs.Inner.Calls.{readCall}
 use Rattle.dimacs.proofs.Reading as dimacs
 use Rattle.dimacs.proofs.Reading.{acceptsText, accepts-exactly, reads, placeOf, place-longest}
+use Rattle.satfile.specs.Trees as tree
+use Rattle.satfile.specs.Trees.{Tree}
+use Rattle.satfile.specs.Texts as satfile
+use Rattle.satfile.specs.Inner.Calls as calls
+use Rattle.satfile.proofs.Reading as reading
 use Rattle.claims.specs.Calls.{Guard, nodes, names, over}
 use Rattle.claims.specs.Claims.{written}
 use Rattle.claims.proofs.Answered.{kept-either, not-both, passed, accepted-after, accepted-right, accepted-left}
@@ -186,4 +192,41 @@ module _ (text before : List ℕ) where
       go : Read → (v : ℕ) × (ds : List Clause) × Text v ds text
           × (readCall text before ≡ record { answer = Accepted v (length ds); output = over (clausesBytes ds) before })
       go (accepted v ds h q) = (v, ds, h, q ∙ stored-over _ (clausesBytes ds) before (passed q e))
+      go (refused k q) = not-both (sym (passed q e))
+
+-- reading the text of a formula
+module _ (text before : List ℕ) where
+  data Formula : Type 0 where
+    accepted : (v : ℕ) (t : Tree) → satfile.Text v t text → calls.readCall text before ≡ calls.treeCall v t before → Formula
+    refused : (k : ℕ) → calls.readCall text before ≡ record { answer = answer.SatText k; output = before } → Formula
+
+  formula-cases : Formula
+  formula-cases = go (reading.acceptsText text) refl
+    where
+      go : (b : Bool) → reading.acceptsText text ≡ b → Formula
+      go true e =
+          let a = reading.accepts-exactly text .0 e in accepted (a .0) (a .1) (a .2) (reading.reads (a .0) (a .1) text before (a .2))
+      go false e = refused (reading.placeOf text)
+          (reading.refuses text before (reading.placeOf text) (λ a. not-both (sym e ∙ reading.accepts-exactly text .1 a))
+          (reading.place-longest text))
+
+  pub sat-kept : Kept before (calls.readCall text before)
+  sat-kept = go formula-cases
+    where
+      go : Formula → Kept before (calls.readCall text before)
+      go (accepted v t h q) =
+          subst⁻¹ (Kept before) q
+          (kept-either (ltb mostNodes (tree.sizeOf t)) before _ _ (λ e. refl) (kept-stored _ (tree.tableOf t) before refl))
+      go (refused k q) = subst⁻¹ (Kept before) q (λ e. refl)
+
+  pub sat-accepted : refuses (calls.readCall text before .answer) ≡ false
+      → (v : ℕ) × (t : Tree) × satfile.Text v t text × (tree.sizeOf t ≤ mostNodes)
+      × (calls.readCall text before ≡ record { answer = Accepted v (tree.sizeOf t); output = over (tree.tableOf t) before })
+  sat-accepted e = go formula-cases
+    where
+      go : Formula → (v : ℕ) × (t : Tree) × satfile.Text v t text × (tree.sizeOf t ≤ mostNodes)
+          × (calls.readCall text before ≡ record { answer = Accepted v (tree.sizeOf t); output = over (tree.tableOf t) before })
+      go (accepted v t h q) =
+          let a = accepted-right (ltb mostNodes (tree.sizeOf t)) _ _ refl (passed q e) in
+          (v, t, h, ltb-false mostNodes (tree.sizeOf t) (a .0), q ∙ a .1 ∙ stored-over _ (tree.tableOf t) before (passed (q ∙ a .1) e))
       go (refused k q) = not-both (sym (passed q e))
