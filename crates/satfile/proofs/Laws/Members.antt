@@ -4,20 +4,20 @@
 use mathlib.Core.Path.{_≡_, refl, sym, ap, _∙_, subst, subst⁻¹}
 use mathlib.Core.Bool.{Bool, true, false, cond, _||_, false≢true}
 use mathlib.Core.List.{List, [], _∷_, _++_, append-assoc, append-nil}
-use Prim.Native.Nat.{ℕ, zero, suc, _+_, _≤_, _<_}
+use Prim.Native.Nat.{ℕ, zero, suc, _<_}
 use native.Mathlib.Omega.{arith}
 use lib.Dec.{eqb}
-use lib.ListN.{length, drop, length-append}
+use lib.ListN.{length, length-append}
 use borrow.Author.Tests.{eqb-true}
 use Rattle.laws.proofs.Choices.{neither}
 use Rattle.header.proofs.Laws.White.{white-class, white-of}
 use Rattle.satfile.specs.Trees.{Tree}
 use Rattle.satfile.specs.Inner.Reads.{Out, Read, Bad, isSpace, skipped, Partly, isMany, takes, isFull, isWhole}
-use Rattle.satfile.specs.Inner.Reads.{endsAt, behind, withOne, groupTree, isParted, groupFrom}
+use Rattle.satfile.specs.Inner.Reads.{endsAt, withOne, groupTree, isParted, groupFrom}
 use Rattle.satfile.specs.declared.lead.Group.{Group}
 use Rattle.satfile.proofs.Laws.Rests.{taken, left}
 use Rattle.satfile.proofs.Laws.Outcomes.{Same, empty, first, same-refl, same-split, Word, Some, Outcome, good, wrong, none, passed, sound}
-use Rattle.satfile.proofs.Laws.Groups.{Matches, Rest, close, end, white, member, or-right, full-unless-takes, same-ends, same-parted}
+use Rattle.satfile.proofs.Laws.Groups.{Matches, Rest, close, end, white, member, or-right, same-ends, same-parted}
 use Rattle.satfile.proofs.Laws.Groups.{Settled, settled-empty, settled-byte, skipped-white}
 use Rattle.satfile.proofs.Laws.Groups.{group-full, group-lacks, group-sated, group-wrong, group-on, behind-member, finishes}
 
