@@ -57,7 +57,8 @@ over-options (grammar.any q m) = absurd (false≢true q)
 
 fills-of-formula : (v d : ℕ) (t : Tree) (l r : List ℕ) → Formula v d t l r → fills v (suc d) ≡ true
 fills-of-formula v zero t l r x = let h = over-options x in rw (ne-eqb v 0 (λ e. omega arith))
-fills-of-formula v (suc d) t l r x = rw (ne-eqb (suc (suc d)) 0 (λ e. omega arith), ne-eqb (suc (suc d)) 1 (λ e. omega arith)) (go (eqb v 0))
+fills-of-formula v (suc d) t l r x =
+    rw (ne-eqb (suc (suc d)) 0 (λ e. omega arith), ne-eqb (suc (suc d)) 1 (λ e. omega arith)) (go (eqb v 0))
   where
     go : (z : Bool) → cond z true true ≡ true
     go true = refl

@@ -38,7 +38,8 @@ module _ {v d : ℕ} {opens : Bool} {Inside : Tree → List ℕ → List ℕ →
 
   module _ (g : Group) (c : ℕ) (many : isMany g ≡ true)
       (begins : (r : List ℕ) → beginIn v d (c ∷ r) ≡ cond (eqb d 0) (Bad (c ∷ r)) (openIn g r))
-      (listed : opens ≡ true → (t : Tree) (l r : List ℕ) → Rest Inside g true reads.none t l r → Over v opens Inside t (c ∷ 40 ∷ l) r) where
+      (listed : opens ≡ true → (t : Tree) (l r : List ℕ) → Rest Inside g true reads.none t l r
+          → Over v opens Inside t (c ∷ 40 ∷ l) r) where
     list-fills : isMany g ≡ false → Some Inside []
     list-fills e = absurd (false≢true (sym e ∙ many))
 
@@ -116,7 +117,8 @@ module _ {v d : ℕ} {opens : Bool} {Inside : Tree → List ℕ → List ℕ →
 
     other-stop : Outcome (λ m p. formulaRead m ≡ p) (Over v opens Inside) (b ∷ l)
     other-stop =
-        renamed (λ t. t) (b ∷ l) (λ m r t s i. other-read m s ∙ i) (λ m r s i. other-read m s ∙ i) (λ t w x. x) (operand-stop o false (b ∷ l))
+        renamed (λ t. t) (b ∷ l) (λ m r t s i. other-read m s ∙ i) (λ m r s i. other-read m s ∙ i) (λ t w x. x)
+        (operand-stop o false (b ∷ l))
 
   empty-read : formulaRead [] ≡ Bad []
   unfolding beginIn

@@ -46,10 +46,6 @@ module _ (g : Group) where
   full-with-one reads.none t = or-right (isMany g)
   full-with-one (reads.some s) t = or-right (isMany g)
 
-  pub full-unless-takes : (p : Partly) → takes g p ≡ false → isFull g p ≡ true
-  full-unless-takes reads.none e = absurd (false≢true (sym e ∙ or-right (isMany g)))
-  full-unless-takes (reads.some s) e = or-right (isMany g)
-
   takes-unless-full : (p : Partly) → isFull g p ≡ false → takes g p ≡ true
   takes-unless-full reads.none e = or-right (isMany g)
   takes-unless-full (reads.some s) e = absurd (false≢true (sym e ∙ or-right (isMany g)))

@@ -23,14 +23,16 @@ use Rattle.satfile.proofs.Laws.Numerals.{Numeral, number-stop, number-w
 use Rattle.satfile.proofs.Laws.Groups.{Rest, finishes}
 use Rattle.satfile.proofs.Laws.Grammars.{single-of-rest, rest-of-single}
 
--- the groups that a formula may open, where d parentheses may still be opened: whether any, whether one can be filled, and how they are read
+-- the groups that a formula may open, where d parentheses may still be opened: whether any, whether one can be filled, and how they are
+-- read
 pub record Opens (v d : ℕ) (opens : Bool) (Inside : Tree → List ℕ → List ℕ → Type 0) (k : Group → List ℕ → Out Tree) : Type 0 where
   pub deep : opens ≡ not (eqb d 0)
   pub some : fills v d ≡ true → Some Inside []
   pub filled : opens ≡ true → (t : Tree) (l r : List ℕ) → Inside t l r → fills v d ≡ true
   pub stop : opens ≡ true → (g : Group) → (isMany g ≡ false → Some Inside []) → (l : List ℕ)
       → Outcome (λ m o. k g m ≡ o) (Rest Inside g true reads.none) l
-  pub whole : opens ≡ true → (g : Group) → isWhole g ≡ false → (t : Tree) (l r : List ℕ) → Rest Inside g true reads.none t l r → k g l ≡ Read t r
+  pub whole : opens ≡ true → (g : Group) → isWhole g ≡ false → (t : Tree) (l r : List ℕ) → Rest Inside g true reads.none t l r
+      → k g l ≡ Read t r
 
 one-group : (n : Bool) → isMany (oneOf n) ≡ false
 one-group false = refl
@@ -57,7 +59,8 @@ module _ (v : ℕ) (opens : Bool) (Inside : Tree → List ℕ → List ℕ → T
   signed-group : (n : Bool) → opens ≡ true → {t : Tree} {l r : List ℕ} → Rest Inside (oneOf n) true reads.none t l r → Sign n t (40 ∷ l) r
   signed-group false q {l = l} {r} d =
       let x = single-of-rest Inside group.One refl d in
-      subst⁻¹ (λ (u : Tree). Over v opens Inside u (40 ∷ l) r) (x .made) (grammar.plain (grammar.parens q (x .before) (x .inside) (x .after)))
+      subst⁻¹ (λ (u : Tree). Over v opens Inside u (40 ∷ l) r) (x .made)
+      (grammar.plain (grammar.parens q (x .before) (x .inside) (x .after)))
   signed-group true q {l = l} {r} d =
       let x = single-of-rest Inside group.Not refl d in
       subst⁻¹ (λ (u : Tree). Over v opens Inside u (45 ∷ 40 ∷ l) r) (x .made)
@@ -66,7 +69,8 @@ module _ (v : ℕ) (opens : Bool) (Inside : Tree → List ℕ → List ℕ → T
   signed-number : (n : Bool) (x : ℕ) (w : List ℕ) → Word (Numeral v []) x w → Word (Sign n) (leafOf x n) w
   signed-number n x w h r =
       subst (λ (u : Tree). Sign n u (w ++ r) r) (leaf-made x n)
-      (subst⁻¹ (λ (l : List ℕ). Sign n (madeOf (oneOf n) (Symbol x)) l r) (h r .split) (signed n (grammar.symbol (h r .least) (h r .most))))
+      (subst⁻¹ (λ (l : List ℕ). Sign n (madeOf (oneOf n) (Symbol x)) l r) (h r .split)
+      (signed n (grammar.symbol (h r .least) (h r .most))))
 
 module _ {v d : ℕ} {opens : Bool} {Inside : Tree → List ℕ → List ℕ → Type 0} {k : Group → List ℕ → Out Tree}
     (o : Opens v d opens Inside k) where
@@ -113,7 +117,8 @@ module _ {v d : ℕ} {opens : Bool} {Inside : Tree → List ℕ → List ℕ →
         go : (e : Bool) → eqb b 40 ≡ e → (q : Bool) → fills v d ≡ q → Outcome (λ m p. operandRead n m ≡ p) (Sign v opens Inside n) (b ∷ l)
         go true e false q = none-first (operandRead n) b l (λ r. ap (andThen (beginThen k)) (taken _ _ _ e ∙ left _ _ _ q))
         go true e true q =
-            subst⁻¹ (λ (c : ℕ). Outcome (λ m p. operandRead n m ≡ p) (Sign v opens Inside n) (c ∷ l)) (eqb-true b 40 e) (operand-opened q l)
+            subst⁻¹ (λ (c : ℕ). Outcome (λ m p. operandRead n m ≡ p) (Sign v opens Inside n) (c ∷ l)) (eqb-true b 40 e)
+            (operand-opened q l)
         go false e q f =
             renamed (λ x. leafOf x n) (b ∷ l)
             (λ m r x h i. number-read b l m e h ∙ ap (λ p. andThen (beginThen k) (andThen (λ x r. Read (Leaf x n) r) p)) i)
