@@ -39,7 +39,7 @@ module _ {v d : ℕ} {opens : Bool} {Inside : Tree → List ℕ → List ℕ →
   module _ (g : Group) (c : ℕ) (many : isMany g ≡ true)
       (begins : (r : List ℕ) → beginIn v d (c ∷ r) ≡ cond (eqb d 0) (Bad (c ∷ r)) (openIn g r))
       (listed : opens ≡ true → (t : Tree) (l r : List ℕ) → Rest Inside g true reads.none t l r
-          → Over v opens Inside t (c ∷ 40 ∷ l) r) where
+      → Over v opens Inside t (c ∷ 40 ∷ l) r) where
     list-fills : isMany g ≡ false → Some Inside []
     list-fills e = absurd (false≢true (sym e ∙ many))
 
