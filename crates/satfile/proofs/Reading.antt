@@ -4,10 +4,10 @@ use mathlib.Core.Path.{_≡_, refl, sym, ap, _∙_, subst, subst⁻¹}
 use mathlib.Core.Bool.{Bool, true, false, cond, _&&_, false≢true}
 use mathlib.Core.List.{List, []}
 use mathlib.Core.Logic.{_↔_}
-use Prim.Native.Nat.{ℕ, _+_, _-_, _≤_}
+use Prim.Native.Nat.{ℕ, _+_, _-_}
 use native.Mathlib.Omega.{arith}
 use lib.ListN.{length, drop, length-drop}
-use Rattle.laws.specs.Automata.{Begins, Longest}
+use Rattle.laws.specs.Automata.{Longest}
 use Rattle.laws.proofs.Automata.{one-place}
 use Rattle.laws.proofs.Choices.{both}
 use Rattle.header.specs.Heads.{Headed}
@@ -18,7 +18,7 @@ use Rattle.answer.specs.declared.Answer.the-variants as answer
 use Rattle.satfile.specs.Trees.{Tree}
 use Rattle.satfile.specs.Texts.{sat, Body, Text, Accepted}
 use Rattle.satfile.specs.Inner.Reads.{Out, Read, Bad, wholeIn}
-use Rattle.satfile.specs.Inner.Calls.{treeCall, bodyCall, readCall}
+use Rattle.satfile.specs.Inner.Calls.{treeCall, readCall}
 use Rattle.satfile.proofs.Laws.Outcomes.{leftOf}
 use Rattle.satfile.proofs.Laws.Bodies.{body-read, read-body, Bodies, bodies-some, body-left, longest-bodies}
 

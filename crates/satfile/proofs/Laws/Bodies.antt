@@ -1,9 +1,9 @@
--- What stands behind a header, against its production: it is read exactly if the grammar has it, and where the reader stops is the longest
--- good beginning.
+-- What stands behind a header, against its production: it is read exactly if the grammar has it, and the place where the reader stops is
+-- the longest good beginning.
 -- Assumes nothing.
-use mathlib.Core.Path.{_≡_, refl, sym, ap, _∙_, subst⁻¹}
+use mathlib.Core.Path.{_≡_, refl, ap, _∙_, subst⁻¹}
 use mathlib.Core.Bool.{Bool, true, false, cond}
-use mathlib.Core.List.{List, [], _∷_, _++_, append-nil}
+use mathlib.Core.List.{List, [], _∷_, _++_}
 use mathlib.Core.Logic.{_↔_}
 use Prim.Native.Nat.{ℕ, zero, suc, _-_, _≤_}
 use native.Mathlib.Omega.{arith}
@@ -13,15 +13,15 @@ use Rattle.header.proofs.Laws.Readers.{longest-same}
 use Rattle.satfile.specs.Trees.{Tree, And, folded}
 use Rattle.satfile.specs.Texts as grammar
 use Rattle.satfile.specs.Texts.{Formula, mostOpen, Body, body}
-use Rattle.satfile.specs.Inner.Reads.{Out, Read, Bad, andThen, skipped, Partly, takes, isFull, withOne, groupTree, isParted, groupFrom}
-use Rattle.satfile.specs.Inner.Reads.{formulaIn, wholeIn}
+use Rattle.satfile.specs.Inner.Reads.{Out, Read, Bad, andThen, skipped, Partly, takes, isFull, withOne, groupTree, isParted}
+use Rattle.satfile.specs.Inner.Reads.{groupFrom, formulaIn, wholeIn}
 use Rattle.satfile.specs.Inner.Reads as reads
 use Rattle.satfile.specs.declared.lead.Group.the-variants as group
 use Rattle.satfile.proofs.Laws.Outcomes.{Some, Outcome, renamed, leftOf, sound, left-within, Whole, longest-stop}
 use Rattle.satfile.proofs.Laws.Groups.{Rest, finishes}
 use Rattle.satfile.proofs.Laws.Members.{group-stop, group-whole}
 use Rattle.satfile.proofs.Laws.Grammars.{single-of-rest, rest-of-single}
-use Rattle.satfile.proofs.Laws.Formulas.{formula-matches}
+use Rattle.satfile.proofs.Laws.Depths.{formula-matches}
 
 -- a whole text is read to its end
 module _ (inner : List ℕ → Out Tree) (t : Tree) (r : List ℕ) where

@@ -2,25 +2,19 @@
 -- language says, the reader of the group does too. `Rest` is what may follow the members that were read; Laws/Grammars says that it is
 -- what the productions have.
 -- Assumes nothing.
-use mathlib.Core.Path.{_≡_, refl, sym, ap, _∙_, subst, subst⁻¹}
-use mathlib.Core.Bool.{Bool, true, false, cond, not, _||_, false≢true}
-use mathlib.Core.List.{List, [], _∷_, _++_, append-assoc, append-nil}
-use Prim.Native.Nat.{ℕ, zero, suc, _+_, _≤_, _<_}
+use mathlib.Core.Path.{_≡_, refl, sym, ap, _∙_, subst}
+use mathlib.Core.Bool.{Bool, true, false, cond, _||_, false≢true}
+use mathlib.Core.List.{List, [], _∷_, _++_, append-assoc}
+use Prim.Native.Nat.{ℕ, zero, suc, _<_}
 use native.Mathlib.Omega.{arith}
-use lib.Dec.{eqb}
-use lib.ListN.{length, length-append}
-use borrow.Author.Tests.{eqb-true}
-use Rattle.laws.proofs.Choices.{neither}
 use Rattle.header.specs.Heads.{White}
-use Rattle.header.proofs.Laws.White.{white-class, white-of}
 use Rattle.satfile.specs.Trees.{Tree}
-use Rattle.satfile.specs.Inner.Reads.{Out, Read, Bad, andThen, isSpace, skipped, Partly, isBegun, isMany, takes, isFull, isWhole}
+use Rattle.satfile.specs.Inner.Reads.{Out, Read, Bad, andThen, isSpace, skipped, Partly, isMany, takes, isFull, isWhole}
 use Rattle.satfile.specs.Inner.Reads.{endsAt, behind, withOne, groupTree, isParted, groupFrom}
 use Rattle.satfile.specs.Inner.Reads as reads
 use Rattle.satfile.specs.declared.lead.Group.{Group}
 use Rattle.satfile.proofs.Laws.Rests.{taken, left}
-use Rattle.satfile.proofs.Laws.Outcomes.{Same, empty, first, same-refl, same-behind, same-split, Word, Some, Outcome, good, wrong, none}
-use Rattle.satfile.proofs.Laws.Outcomes.{passed}
+use Rattle.satfile.proofs.Laws.Outcomes.{Same, empty, first, Some, Outcome, none}
 
 -- a reader of one thing: how it stops; that it reads what its language has, where something follows that may; and that no such thing
 -- begins with what may follow
@@ -51,10 +45,6 @@ module _ (g : Group) where
   full-with-one : (p : Partly) (t : Tree) → isFull g (withOne g p t) ≡ true
   full-with-one reads.none t = or-right (isMany g)
   full-with-one (reads.some s) t = or-right (isMany g)
-
-  pub full-unless-takes : (p : Partly) → takes g p ≡ false → isFull g p ≡ true
-  full-unless-takes reads.none e = absurd (false≢true (sym e ∙ or-right (isMany g)))
-  full-unless-takes (reads.some s) e = or-right (isMany g)
 
   takes-unless-full : (p : Partly) → isFull g p ≡ false → takes g p ≡ true
   takes-unless-full reads.none e = or-right (isMany g)

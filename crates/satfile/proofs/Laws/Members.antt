@@ -4,20 +4,21 @@
 use mathlib.Core.Path.{_≡_, refl, sym, ap, _∙_, subst, subst⁻¹}
 use mathlib.Core.Bool.{Bool, true, false, cond, _||_, false≢true}
 use mathlib.Core.List.{List, [], _∷_, _++_, append-assoc, append-nil}
-use Prim.Native.Nat.{ℕ, zero, suc, _+_, _≤_, _<_}
+use Prim.Native.Nat.{ℕ, zero, suc, _<_}
 use native.Mathlib.Omega.{arith}
 use lib.Dec.{eqb}
-use lib.ListN.{length, drop, length-append}
+use lib.ListN.{length, length-append}
 use borrow.Author.Tests.{eqb-true}
 use Rattle.laws.proofs.Choices.{neither}
 use Rattle.header.proofs.Laws.White.{white-class, white-of}
 use Rattle.satfile.specs.Trees.{Tree}
 use Rattle.satfile.specs.Inner.Reads.{Out, Read, Bad, isSpace, skipped, Partly, isMany, takes, isFull, isWhole}
-use Rattle.satfile.specs.Inner.Reads.{endsAt, behind, withOne, groupTree, isParted, groupFrom}
+use Rattle.satfile.specs.Inner.Reads.{endsAt, withOne, groupTree, isParted, groupFrom}
 use Rattle.satfile.specs.declared.lead.Group.{Group}
 use Rattle.satfile.proofs.Laws.Rests.{taken, left}
-use Rattle.satfile.proofs.Laws.Outcomes.{Same, empty, first, same-refl, same-split, Word, Some, Outcome, good, wrong, none, passed, sound}
-use Rattle.satfile.proofs.Laws.Groups.{Matches, Rest, close, end, white, member, or-right, full-unless-takes, same-ends, same-parted}
+use Rattle.satfile.proofs.Laws.Outcomes.{Same, empty, first, same-refl, same-split, Word, Some}
+use Rattle.satfile.proofs.Laws.Outcomes.{Outcome, good, wrong, none, passed, sound}
+use Rattle.satfile.proofs.Laws.Groups.{Matches, Rest, close, end, white, member, or-right, same-ends, same-parted}
 use Rattle.satfile.proofs.Laws.Groups.{Settled, settled-empty, settled-byte, skipped-white}
 use Rattle.satfile.proofs.Laws.Groups.{group-full, group-lacks, group-sated, group-wrong, group-on, behind-member, finishes}
 
@@ -89,7 +90,8 @@ module _ {inner : List ℕ → Out Tree} {Inside : Tree → List ℕ → List �
       at-once b [] _ (either b refl) (settled-empty [] empty)
       (λ n h. group-full inner g p [] e f n h ∙ ap (Read (groupTree g p)) (taken _ _ _ e))
 
-  stop-full : (b : Bool) (l : List ℕ) → Settled l → endsAt g l ≡ true → isFull g p ≡ true → Outcome (Gives inner g b p) (Rest Inside g b p) l
+  stop-full : (b : Bool) (l : List ℕ) → Settled l → endsAt g l ≡ true → isFull g p ≡ true
+      → Outcome (Gives inner g b p) (Rest Inside g b p) l
   stop-full b [] t e f = good (groupTree g p) [] [] refl (end-empty b e f) (λ r. end e f)
   stop-full b (c ∷ l) t e f =
       let w = close-of-end g c e in
@@ -126,7 +128,8 @@ module _ {inner : List ℕ → Out Tree} {Inside : Tree → List ℕ → List �
             → Gives inner g false (withOne g p u) s o → Gives inner g true p (q ++ s) o
         goes-on u q s h i j o k zero n = absurd (omega arith)
         goes-on u q s h i j o k (suc z) n =
-            ap (groupFrom inner g (suc z) p) (t (q ++ s) h) ∙ group-on inner g p (q ++ s) (same-ends g h ∙ e) f u s i z ∙ k z (omega arith)
+            ap (groupFrom inner g (suc z) p) (t (q ++ s) h)
+            ∙ group-on inner g p (q ++ s) (same-ends g h ∙ e) f u s i z ∙ k z (omega arith)
 
         stop-member : ((u : Tree) (r : List ℕ) → length r < length l
             → Outcome (Gives inner g false (withOne g p u)) (Rest Inside g false (withOne g p u)) r)
@@ -167,7 +170,8 @@ module _ {inner : List ℕ → Out Tree} {Inside : Tree → List ℕ → List �
   stop-white b p c l e =
       let z = finishes Inside g some p in
       passed (c ∷ []) l
-      (λ r o h k n i. taken _ _ _ (either m g p b (parted-white c e)) ∙ ap (groupFrom inner g n p) (skipped-white c r e) ∙ k n (omega arith))
+      (λ r o h k n i. taken _ _ _ (either m g p b (parted-white c e))
+      ∙ ap (groupFrom inner g n p) (skipped-white c r e) ∙ k n (omega arith))
       (λ t w y r. white (white-of c e) (y r))
       (record { value = z .value; rest = z .rest; word = λ r. white (white-of c e) (z .word r) })
 

@@ -1,14 +1,14 @@
 -- The reader of numbers against decimals: it stops behind a number from 1 to v, or at the digit that takes it over v; and it reads every
 -- such number that no digit follows.
 -- Assumes nothing.
-use mathlib.Core.Path.{_≡_, refl, sym, ap, _∙_, subst, subst⁻¹}
-use mathlib.Core.Bool.{Bool, true, false, cond, _||_}
+use mathlib.Core.Path.{_≡_, refl, sym, ap, _∙_, subst}
+use mathlib.Core.Bool.{Bool, true, false, _||_}
 use mathlib.Core.List.{List, [], _∷_, _++_}
 use Prim.Native.Nat.{ℕ, _+_, _*_, _-_, _≤_, _<_}
 use native.Mathlib.Omega.{arith}
 use lib.Dec.{eqb, leb, ltb}
 use lib.Seq.{append-snoc}
-use borrow.Author.Tests.{eqb-true, ne-eqb, leb-true, le-leb, le-ltb, lt-ltb, ltb-false}
+use borrow.Author.Tests.{eqb-true, leb-true, le-leb, le-ltb, ltb-false}
 use Rattle.laws.proofs.Choices.{both}
 use Rattle.text.specs.Texts.{decimal}
 use Rattle.text.specs.Inner.Numbers.{isDigit, grownOf}
@@ -18,7 +18,7 @@ use Rattle.text.proofs.Laws.Decimals.{decimal-one, decimal-more, decimal-taken}
 use Rattle.text.proofs.Laws.Numbers.{digit-value, digit-of, grown-more, grown-of}
 use Rattle.header.specs.Heads.{White, blank, return, newline, space, tab}
 use Rattle.header.proofs.Laws.White.{white-of}
-use Rattle.satfile.specs.Inner.Reads.{Out, Read, Bad, isSpace, grownBy, digitsFrom, isFirst, numberIn, isParted}
+use Rattle.satfile.specs.Inner.Reads.{Read, Bad, isSpace, grownBy, digitsFrom, isFirst, numberIn, isParted}
 use Rattle.satfile.proofs.Laws.Rests.{taken, left}
 use Rattle.satfile.proofs.Laws.Outcomes.{Same, empty, first, Word, Some, Outcome, good, wrong, none, passed}
 

@@ -101,7 +101,8 @@ leftOf (Bad m) = m
 
 module _ {A : Type 0} {f : List ℕ → Out A} {L : A → List ℕ → List ℕ → Type 0} where
   -- what is read is right
-  pub sound : {l : List ℕ} → Outcome (λ m o. f m ≡ o) L l → (a : A) (r : List ℕ) → f l ≡ Read a r → (p : List ℕ) × (l ≡ p ++ r) × Word L a p
+  pub sound : {l : List ℕ} → Outcome (λ m o. f m ≡ o) L l → (a : A) (r : List ℕ) → f l ≡ Read a r
+      → (p : List ℕ) × (l ≡ p ++ r) × Word L a p
   sound {l} (good b q s e g w) a r h =
       let i : f l ≡ Read b s = ap f e ∙ g s (same-refl s) in
       let x : b ≡ a = cc in
@@ -118,8 +119,10 @@ module _ {A : Type 0} {f : List ℕ → Out A} {L : A → List ℕ → List ℕ 
 
   -- nothing is left but what was there
   pub left-within : {l : List ℕ} → Outcome (λ m o. f m ≡ o) L l → length (leftOf (f l)) ≤ length l
-  left-within {l} (good a p r e g w) = omega (arith, length-append p r, ap length e, ap (λ o. length (leftOf o)) (ap f e ∙ g r (same-refl r)))
-  left-within {l} (wrong p r e g w) = omega (arith, length-append p r, ap length e, ap (λ o. length (leftOf o)) (ap f e ∙ g r (same-refl r)))
+  left-within (good a p r e g w) =
+      omega (arith, length-append p r, ap length e, ap (λ o. length (leftOf o)) (ap f e ∙ g r (same-refl r)))
+  left-within (wrong p r e g w) =
+      omega (arith, length-append p r, ap length e, ap (λ o. length (leftOf o)) (ap f e ∙ g r (same-refl r)))
   left-within {l} (none g) = omega (arith, ap (λ o. length (leftOf o)) (g l (same-refl l)))
 
 -- the whole texts of a language
