@@ -1,124 +1,30 @@
--- A group as it is read member by member, and a formula as it begins: what the functions that call each other cite.
+-- A group as it is read member by member: what the loop of the function that reads one cites. Laws/Groups has the steps of its reader.
 -- Assumes nothing.
-use mathlib.Core.Path.{_≡_, refl, sym, ap, _∙_, subst}
+use mathlib.Core.Path.{_≡_, refl, sym, ap, _∙_}
 use mathlib.Core.Bool.{Bool, true, false, cond, not, _||_, false≢true}
 use mathlib.Core.List.{List, [], _∷_}
-use Prim.Native.Nat.{ℕ, zero, suc, _+_, _-_, _^_, _≤_, _<_}
+use Prim.Native.Nat.{ℕ, suc, _+_, _-_, _^_, _≤_, _<_}
 use native.Mathlib.Omega.{arith}
 use lib.Dec.{eqb, ltb}
 use lib.ListN.{length, getD, drop, length-drop}
 use lib.Seq.{drop-drop}
 use borrow.Author.Tests.{eq-eqb, ne-eqb, eqb-true, eqb-false, ltb-true, ltb-false}
-use Rattle.satfile.specs.Trees.{Tree, sizeOf, recordsFrom}
-use Rattle.satfile.specs.Inner.Reads.{Out, Read, Bad, andThen, isSpace, skipped, Begin, Leaf, Open, leafOf, beginIn, beginThen}
-use Rattle.satfile.specs.Inner.Reads.{Partly, none, some, isBegun, isMany, takes, isFull, isWhole, endsAt, behind, withOne, groupTree}
-use Rattle.satfile.specs.Inner.Reads.{isParted, groupFrom, groupIn, formulaIn, listIn}
+use Rattle.satfile.specs.Inner.Reads.{Read, isSpace, skipped, Partly, none, some, isBegun, isMany, takes, isFull, isWhole, endsAt}
+use Rattle.satfile.specs.Inner.Reads.{behind, withOne, groupTree, isParted, groupFrom, formulaIn, listIn}
 use Rattle.satfile.specs.Inner.Stores.{Adds, partRecords, partNodes, foldRecords, foldNodes, emptyNodes, endRecords}
-use Rattle.satfile.specs.Inner.Stores.{endNodes, HasChild, Ending, Folding, Roomy}
-use Rattle.satfile.specs.Inner.Parts.{Skipped, WrongAt, ReadTo, OpenTo, leafNodes, DoneTo, WrongTo, Tells, Readable}
+use Rattle.satfile.specs.Inner.Stores.{endNodes, HasChild, Ending, Folding}
+use Rattle.satfile.specs.Inner.Parts.{Skipped, DoneTo, WrongTo, Readable}
 use Rattle.satfile.specs.declared.lead.Group.{Group}
 use Rattle.satfile.specs.declared.lead.Group.the-variants as group
-use Rattle.satfile.specs.declared.nested.Part.{Part}
-use Rattle.satfile.specs.declared.nested.Part.the-variants as part
-use Rattle.satfile.proofs.Laws.Rests.{taken, left, rest-end, rest-byte, ends-end, ends-whole, ends-close, parted-end, parted-close}
-use Rattle.satfile.proofs.Laws.Rests.{parted-space, skipped-on, skipped-stop}
+use Rattle.satfile.proofs.Laws.Groups as steps
 use Rattle.satfile.proofs.Laws.Records.{size-some}
+use Rattle.satfile.proofs.Laws.Rests.{taken, left, ends-end, ends-close, parted-space, skipped-on, skipped-stop}
 use Rattle.satfile.proofs.Laws.Stores.{adds-none, adds-member, adds-end}
-
--- a formula that begins with a symbol, with a group, or not at all
-module _ (v d : ℕ) (l : List ℕ) where
-  by-begin : (d : ℕ) → (k : Group → List ℕ → Out Tree) × (formulaIn v d l ≡ andThen (beginThen k) (beginIn v d l))
-  unfolding formulaIn
-  by-begin zero = (λ g r. Bad r, refl)
-  by-begin (suc d) = (groupIn (formulaIn v d), refl)
-
-  pub formula-leaf : (n : ℕ) (negated : Bool) (r : List ℕ) → beginIn v d l ≡ Read (Leaf n negated) r → formulaIn v d l ≡ Read (leafOf n negated) r
-  formula-leaf n negated r e = let b = by-begin d in b .1 ∙ ap (andThen (beginThen (b .0))) e
-
-  pub formula-wrong : (m : List ℕ) → beginIn v d l ≡ Bad m → formulaIn v d l ≡ Bad m
-  formula-wrong m e = let b = by-begin d in b .1 ∙ ap (andThen (beginThen (b .0))) e
-
-pub formula-open : (v d : ℕ) (l r : List ℕ) (g : Group) → 0 < d → beginIn v d l ≡ Read (Open g) r → formulaIn v d l ≡ listIn v (d - 1) g r
-unfolding formulaIn
-formula-open v d l r g h e =
-    let f : d ≡ suc (d - 1) = omega arith in
-    ap (λ (x : ℕ). formulaIn v x l) f ∙ go (d - 1) (ap (λ (x : ℕ). beginIn v x l) (sym f) ∙ e)
-  where
-    go : (x : ℕ) → beginIn v (suc x) l ≡ Read (Open g) r → formulaIn v (suc x) l ≡ listIn v x g r
-    go x q = ap (andThen (beginThen (groupIn (formulaIn v x)))) q
-
--- a symbol is a formula, and its nodes are no more than its bytes
-module _ (v d : ℕ) (text : List ℕ) (from n : ℕ) (negated : Bool) {at : ℕ}
-    (t : ReadTo text (beginIn v d (drop from text)) (Leaf n negated) (from + leafNodes negated) at) where
-  pub leaf-roomy : (i : ℕ) → Readable text from i → length text < 2 ^ 64 → Roomy i (leafNodes negated)
-  leaf-roomy i r h = record { last = omega (arith, r .few, t .onward, t .within) }
-
-  pub leaf-done : {before after : List ℕ} {i next : ℕ} → Adds (recordsFrom i (leafOf n negated)) (leafNodes negated) before i next after
-      → DoneTo text before from i (formulaIn v d (drop from text)) at next after
-  leaf-done {before} {after} {i} {next} a = record {
-    tree = leafOf n negated;
-    to = record {
-      out = formula-leaf v d (drop from text) n negated (drop at text) (t .out);
-      onward = omega (arith, t .onward);
-      within = t .within;
-    };
-    few = omega (arith, a .nodes, t .onward);
-    adds = subst (λ (k : ℕ). Adds (recordsFrom i (leafOf n negated)) k before i next after) (size negated) a;
-  }
-    where
-      size : (b : Bool) → leafNodes b ≡ sizeOf (leafOf n b)
-      size false = refl
-      size true = refl
-
--- a group that is opened is the formula
-module _ (v d : ℕ) (text : List ℕ) (from at : ℕ) (g : Group) (t : OpenTo text (beginIn v d (drop from text)) g from at d) where
-  pub open-readable : (i : ℕ) → Readable text from i → Readable text at i
-  open-readable i r = record { within = t .to .within; few = omega (arith, r .few, t .to .onward) }
-
-  pub open-told : (before after : List ℕ) (i : ℕ) (r : Part) → Tells text before at i (listIn v (d - 1) g (drop at text)) r after
-      → Tells text before from i (formulaIn v d (drop from text)) r after
-  open-told before after i (part.Done end next) x = record {
-    tree = x .tree;
-    to = record { out = same ∙ x .to .out; onward = omega (arith, t .to .onward, x .to .onward); within = x .to .within };
-    few = omega (arith, t .to .onward, x .few);
-    adds = x .adds;
-  }
-    where
-      same : formulaIn v d (drop from text) ≡ listIn v (d - 1) g (drop at text)
-      same = formula-open v d (drop from text) (drop at text) g (t .deep) (t .to .out)
-  open-told before after i (part.Wrong place) x = record {
-    at = record {
-      out = formula-open v d (drop from text) (drop at text) g (t .deep) (t .to .out) ∙ x .at .out;
-      within = x .at .within;
-    };
-    same = x .same;
-  }
 
 -- whether a group has begun, by the numbers of its nodes
 pub begun-by : {xs before after : List ℕ} {i next : ℕ} (p : Partly) → Adds xs (partNodes p) before i next after → eqb next i ≡ not (isBegun p)
 begun-by {i = i} {next = next} none a = eq-eqb next i (a .nodes ∙ omega arith)
 begun-by {i = i} {next = next} (some t) a = ne-eqb next i (λ e. omega (arith, a .nodes, size-some t))
-
--- one turn of the loop, where a group goes on or ends
-module _ (inner : List ℕ → Out Tree) (g : Group) (n : ℕ) (p : Partly) (l : List ℕ) where
-  abbrev next : Tree → List ℕ → Out Tree
-  next t r = cond (isParted r) (groupFrom inner g n (withOne g p t) (skipped r)) (Bad r)
-
-  turn-full : endsAt g l ≡ true → isFull g p ≡ true → groupFrom inner g (suc n) p l ≡ Read (groupTree g p) (behind g l)
-  unfolding groupFrom
-  turn-full e f = taken _ _ _ e ∙ taken _ _ _ f
-
-  turn-lacks : endsAt g l ≡ true → isFull g p ≡ false → groupFrom inner g (suc n) p l ≡ Bad l
-  unfolding groupFrom
-  turn-lacks e f = taken _ _ _ e ∙ left _ _ _ f
-
-  turn-over : endsAt g l ≡ false → takes g p ≡ false → groupFrom inner g (suc n) p l ≡ Bad l
-  unfolding groupFrom
-  turn-over e f = left _ _ _ e ∙ left _ _ _ f
-
-  turn-member : endsAt g l ≡ false → takes g p ≡ true → groupFrom inner g (suc n) p l ≡ andThen next (inner l)
-  unfolding groupFrom
-  turn-member e f = left _ _ _ e ∙ taken _ _ _ f
 
 -- only a list goes on behind a member; and it does not end with the text
 many-of : (g : Group) (p : Partly) → takes g p ≡ true → isBegun p ≡ true → isMany g ≡ true
@@ -236,7 +142,7 @@ module _ (v d : ℕ) (g : Group) (text before : List ℕ) (at i : ℕ) where
         → WrongTo text before (listIn v d g (drop at text)) place table
     group-over e f = record {
       at = record {
-        out = sym (w .same) ∙ turn-over (formulaIn v d) g (w .fuel) (w .part) (drop place text) e f;
+        out = sym (w .same) ∙ steps.group-sated (formulaIn v d) g (w .part) (drop place text) e f (suc (w .fuel)) (omega arith);
         within = w .within;
       };
       same = w .adds .same;
@@ -246,7 +152,7 @@ module _ (v d : ℕ) (g : Group) (text before : List ℕ) (at i : ℕ) where
         → WrongTo text before (listIn v d g (drop at text)) place table
     group-lacks e f = record {
       at = record {
-        out = sym (w .same) ∙ turn-lacks (formulaIn v d) g (w .fuel) (w .part) (drop place text) e f;
+        out = sym (w .same) ∙ steps.group-lacks (formulaIn v d) g (w .part) (drop place text) e f (suc (w .fuel)) (omega arith);
         within = w .within;
       };
       same = w .adds .same;
@@ -258,26 +164,21 @@ module _ (v d : ℕ) (g : Group) (text before : List ℕ) (at i : ℕ) where
 
     -- a member is read
     module _ (e : endsAt g (drop place text) ≡ false) (f : takes g (w .part) ≡ true) where
-      member-turn : groupFrom (formulaIn v d) g (suc (w .fuel)) (w .part) (drop place text)
-          ≡ andThen (next (formulaIn v d) g (w .fuel) (w .part) (drop place text)) (formulaIn v d (drop place text))
-      member-turn = turn-member (formulaIn v d) g (w .fuel) (w .part) (drop place text) e f
-
       pub group-wrong : {p : ℕ} {after : List ℕ} → WrongTo text table (formulaIn v d (drop place text)) p after
           → WrongTo text before (listIn v d g (drop at text)) p after
       group-wrong x = record {
         at = record {
-          out = sym (w .same) ∙ member-turn ∙ ap (andThen (next (formulaIn v d) g (w .fuel) (w .part) (drop place text))) (x .at .out);
+          out =
+              sym (w .same)
+              ∙ steps.group-wrong (formulaIn v d) g (w .part) (drop place text) e f _ (x .at .out) (suc (w .fuel)) (omega arith);
           within = x .at .within;
         };
         same = x .same ∙ w .adds .same;
       }
 
       module _ {end after : ℕ} {stored : List ℕ} (x : DoneTo text table place node (formulaIn v d (drop place text)) end after stored) where
-        told : listIn v d g (drop at text)
-            ≡ next (formulaIn v d) g (w .fuel) (w .part) (drop place text) (x .tree) (drop end text)
-        told =
-            sym (w .same) ∙ member-turn
-            ∙ ap (andThen (next (formulaIn v d) g (w .fuel) (w .part) (drop place text))) (x .to .out)
+        told : listIn v d g (drop at text) ≡ steps.on (formulaIn v d) g (w .part) (drop place text) e f (w .fuel) (x .tree) (drop end text)
+        told = sym (w .same) ∙ steps.group-on (formulaIn v d) g (w .part) (drop place text) e f (x .tree) _ (x .to .out) (w .fuel)
 
         pub group-unparted : isParted (drop end text) ≡ false → WrongTo text before (listIn v d g (drop at text)) end stored
         group-unparted n = record {
@@ -381,7 +282,7 @@ module _ (v d : ℕ) (g : Group) (text before : List ℕ) (at i : ℕ) where
             tree = groupTree g (w .part);
             to = record {
               out =
-                  sym (w .same) ∙ turn-full (formulaIn v d) g (w .fuel) (w .part) (drop place text) e f
+                  sym (w .same) ∙ steps.group-full (formulaIn v d) g (w .part) (drop place text) e f (suc (w .fuel)) (omega arith)
                   ∙ ap (Read (groupTree g (w .part))) past-rest;
               onward = go (isWhole g) refl;
               within = past-within;

@@ -14,7 +14,8 @@ use lib.ListN.{length, drop}
 use Rattle.satfile.specs.Inner.Reads.{beginIn, takes, isFull, endsAt, formulaIn}
 use Rattle.satfile.specs.Inner.Parts.{OpenTo, DoneTo}
 use Rattle.satfile.proofs.Laws.Tells.{begin-leaf, begin-open, begin-wrong, told-done, told-wrong}
-use Rattle.satfile.proofs.Laws.Turns.{leaf-done, leaf-roomy, open-readable, open-told, formula-wrong, Grouping, group-start}
+use Rattle.satfile.proofs.Laws.Begins.{leaf-done, leaf-roomy, open-readable, open-told, formula-wrong}
+use Rattle.satfile.proofs.Laws.Turns.{Grouping, group-start}
 use Rattle.satfile.proofs.Laws.Turns.{takes-by, full-by, group-over, group-lacks, group-readable, group-wrong, group-unparted, group-folding}
 use Rattle.satfile.proofs.Laws.Turns.{group-next, ahead, closes-within, group-ending, group-done}
 use Rattle.satfile.proofs.nested.formula.Reads as formula
