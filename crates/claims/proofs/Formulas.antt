@@ -15,7 +15,7 @@ use Rattle.formula.specs.Tables.{nodeBytes, mostNodes, nodesOf}
 use Rattle.formula.specs.Truths.{formulaTrue}
 use Rattle.satfile.specs.Trees.{Tree, sizeOf, treeTrue, tableOf}
 use Rattle.satfile.specs.Texts.{Text}
-use Rattle.satfile.specs.Inner.Calls.{treeCall}
+use Rattle.satfile.specs.Calls.{treeCall}
 use Rattle.satfile.proofs.Reading.{reads, refuses, one-reading}
 use Rattle.satfile.proofs.Tables.{symbols-within, table-length, text-checked, text-true}
 use Rattle.claims.specs.Calls.{first, second, over, Check, checkSeen, checkGuard, ReadSat, satSeen, satText, tableLeft}

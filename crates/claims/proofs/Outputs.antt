@@ -32,6 +32,7 @@ use Rattle.dimacs.proofs.Reading.{acceptsText, accepts-exactly, reads, placeOf,
 use Rattle.satfile.specs.Trees as tree
 use Rattle.satfile.specs.Trees.{Tree}
 use Rattle.satfile.specs.Texts as satfile
+use Rattle.satfile.specs.Calls as asked
 use Rattle.satfile.specs.Inner.Calls as calls
 use Rattle.satfile.proofs.Reading as reading
 use Rattle.claims.specs.Calls.{Guard, nodes, names, over}
@@ -197,7 +198,7 @@ module _ (text before : List ℕ) where
 -- reading the text of a formula
 module _ (text before : List ℕ) where
   data Formula : Type 0 where
-    accepted : (v : ℕ) (t : Tree) → satfile.Text v t text → calls.readCall text before ≡ calls.treeCall v t before → Formula
+    accepted : (v : ℕ) (t : Tree) → satfile.Text v t text → calls.readCall text before ≡ asked.treeCall v t before → Formula
     refused : (k : ℕ) → calls.readCall text before ≡ record { answer = answer.SatText k; output = before } → Formula
 
   formula-cases : Formula

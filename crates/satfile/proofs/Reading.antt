@@ -18,7 +18,8 @@ use Rattle.answer.specs.declared.Answer.the-variants as answer
 use Rattle.satfile.specs.Trees.{Tree}
 use Rattle.satfile.specs.Texts.{sat, Body, Text, Accepted}
 use Rattle.satfile.specs.Inner.Reads.{Out, Read, Bad, wholeIn}
-use Rattle.satfile.specs.Inner.Calls.{treeCall, readCall}
+use Rattle.satfile.specs.Calls.{treeCall}
+use Rattle.satfile.specs.Inner.Calls.{readCall}
 use Rattle.satfile.proofs.Laws.Outcomes.{leftOf}
 use Rattle.satfile.proofs.Laws.Bodies.{body-read, read-body, Bodies, bodies-some, body-left, longest-bodies}
 

@@ -19,7 +19,8 @@ use Rattle.satfile.specs.Trees.{Tree, sizeOf, tableOf, recordsFrom}
 use Rattle.satfile.specs.Texts.{sat}
 use Rattle.satfile.specs.Inner.Reads.{Out, Read, Bad, wholeIn}
 use Rattle.satfile.specs.Inner.Parts.{DoneTo, WrongTo, Tells}
-use Rattle.satfile.specs.Inner.Calls.{treeCall, bodyCall, readCall}
+use Rattle.satfile.specs.Inner.Calls.{bodyCall, readCall}
+use Rattle.satfile.specs.Calls.{treeCall}
 use Rattle.satfile.specs.declared.nested.Part.{Part}
 use Rattle.satfile.specs.declared.nested.Part.the-variants as part
 use Rattle.satfile.proofs.Laws.Records.{length-records}

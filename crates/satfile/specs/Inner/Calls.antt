@@ -1,24 +1,16 @@
--- R21.16 to R21.20: what the call gives, by the reader.
+-- R21.16: what the call gives, by the reader.
 -- Assumes nothing: these are definitions.
 use mathlib.Core.Bool.{cond}
 use mathlib.Core.List.{List}
 use Prim.Native.Nat.{ℕ, _-_}
-use lib.Dec.{ltb}
 use lib.ListN.{length, drop}
-use Rattle.answer.specs.Answers.{Wrote, stored}
-use Rattle.answer.specs.declared.Answer.the-variants.{Accepted, SatText, Nodes}
+use Rattle.answer.specs.Answers.{Wrote}
+use Rattle.answer.specs.declared.Answer.the-variants.{SatText}
 use Rattle.header.specs.Inner.Heads.{isDone, headOf}
-use Rattle.formula.specs.Tables.{mostNodes}
-use Rattle.satfile.specs.Trees.{Tree, sizeOf, tableOf}
+use Rattle.satfile.specs.Trees.{Tree}
 use Rattle.satfile.specs.Texts.{sat}
+use Rattle.satfile.specs.Calls.{treeCall}
 use Rattle.satfile.specs.Inner.Reads.{Out, Read, Bad, wholeIn}
-
--- R21.17 to R21.20: a formula over v options and the buffer for its table: refusal 18, then 7
-abbrev pub treeCall : ℕ → Tree → List ℕ → Wrote (List ℕ)
-treeCall v t buffer =
-    cond (ltb mostNodes (sizeOf t))
-    (record { answer = Nodes; output = buffer })
-    (stored (Accepted v (sizeOf t)) (tableOf t) buffer)
 
 -- what stands behind the header of a text
 abbrev pub bodyCall : List ℕ → ℕ → Out Tree → List ℕ → Wrote (List ℕ)
