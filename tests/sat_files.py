@@ -8,6 +8,7 @@ of it.
 import random
 import re
 
+import sat_texts
 from node_files import node_file
 
 MOST_OPTIONS, MOST_OPEN, MOST_NODES = 32_000, 64, 1_024
@@ -424,33 +425,10 @@ NOT_SAT = [
 ]
 
 
-def drawn_space(drawn, least=0):
-    return bytes(drawn.choice(b"  \t\n\r") for _ in range(drawn.choice((least, least, 1, 1, 2, 3))))
-
-
-def drawn_formula(drawn, options, depth):
-    """A formula of few nodes."""
-    turn = drawn.randrange(8)
-    if depth == 0 or turn < 3:
-        if not options:
-            return drawn.choice((b"*()", b"+()", b"+( )"))
-        return drawn.choice((b"", b"-")) + b"%d" % drawn.randint(1, options)
-    if turn == 3:
-        inner = drawn_formula(drawn, options, depth - 1)
-        return drawn.choice((b"", b"-")) + b"(" + drawn_space(drawn) + inner + drawn_space(drawn) + b")"
-    members = [drawn_formula(drawn, options, depth - 1) for _ in range(drawn.choice((0, 1, 2, 2, 3, 4)))]
-    inner = members[0] if members else b""
-    for member in members[1:]:
-        inner += drawn_space(drawn, 1) + member
-    return drawn.choice((b"*(", b"+(")) + drawn_space(drawn) + inner + drawn_space(drawn) + b")"
-
-
 def drawn_text(drawn):
-    lines = (b"c\n", b"c a guard\n", b"c p sat 9\r\n", b"c\0\xff\n")
-    comments = b"".join(drawn.choice(lines) for _ in range(drawn.choice((0, 0, 1, 2))))
     options = drawn.choice((0, 1, 2, 3, 9, 10, 40, 32_000))
-    header = b"p" + drawn.choice((b" ", b"\t", b"  ")) + b"sat " + b"%d" % options + drawn.choice((b"", b" ", b"\t")) + b"\n"
-    return comments + header + drawn_space(drawn) + drawn_formula(drawn, options, drawn.randrange(5)) + drawn_space(drawn)
+    comments = drawn.choice((b"", b"", b"c\0\xff\n"))
+    return comments + sat_texts.text_of(drawn, options, sat_texts.drawn(drawn, options, drawn.randrange(5))).encode()
 
 
 def damage(drawn, text):
