@@ -151,7 +151,8 @@ fn one_of(negated: bool) -> Group
 // A number, or the parenthesis of one formula; negated or not.
 fn operand(text: &[u8], at: usize, depth: u32, options: u32, negated: bool) -> Lead
     requires { ⌜ at ≤ length (now text) ⌝ }
-    ensures { λ r. ⌜ TellsBegin (leafBytes negated) (now (text .entry)) at depth (operandIn options depth negated (drop at (now (text .entry)))) r ⌝ }
+    ensures { λ r. ⌜ TellsBegin (leafBytes negated) (now (text .entry)) at depth
+        (operandIn options depth negated (drop at (now (text .entry)))) r ⌝ }
 {
     if text.len() <= at {
         return Lead::Wrong { place: at };

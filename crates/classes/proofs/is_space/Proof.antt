@@ -34,7 +34,12 @@ newline c =
     let second = third .before in
     let b = second .before .before .args .byte in
     let e : true ≡ isSpace b =
-    rw (le-ltb _ _ (second .before .if1 .left), ne-eqb _ _ (second .if2 .left), ne-eqb _ _ (third .if3 .left), eq-eqb _ _ (c .if4 .taken)) in
+    rw (
+      le-ltb _ _ (second .before .if1 .left),
+      ne-eqb _ _ (second .if2 .left),
+      ne-eqb _ _ (third .if3 .left),
+      eq-eqb _ _ (c .if4 .taken),
+    ) in
     e ∙ space-white b (search needs)
 
 return : tie.Need-returns-5

@@ -21,7 +21,8 @@ module _ (v d : ℕ) (l : List ℕ) where
   by-begin zero = (λ g r. Bad r, refl)
   by-begin (suc d) = (groupIn (formulaIn v d), refl)
 
-  pub formula-leaf : (n : ℕ) (negated : Bool) (r : List ℕ) → beginIn v d l ≡ Read (Leaf n negated) r → formulaIn v d l ≡ Read (leafOf n negated) r
+  pub formula-leaf : (n : ℕ) (negated : Bool) (r : List ℕ) → beginIn v d l ≡ Read (Leaf n negated) r
+      → formulaIn v d l ≡ Read (leafOf n negated) r
   formula-leaf n negated r e = let b = by-begin d in b .1 ∙ ap (andThen (beginThen (b .0))) e
 
   pub formula-wrong : (m : List ℕ) → beginIn v d l ≡ Bad m → formulaIn v d l ≡ Bad m

@@ -141,7 +141,8 @@ joined-records g i s t behind after p q =
 
 -- a member is joined to those before it
 module _ (g : Group) (i : ℕ) {a b c d : List ℕ} {behind after next : ℕ} (t : Tree) where
-  pub adds-member : (p : Partly) → Adds (partRecords i p) (partNodes p) a i behind b → Adds (recordsFrom behind t) (sizeOf t) b behind after c
+  pub adds-member : (p : Partly) → Adds (partRecords i p) (partNodes p) a i behind b
+      → Adds (recordsFrom behind t) (sizeOf t) b behind after c
       → Adds (foldRecords g i behind after) (foldNodes i behind) c after next d
       → Adds (partRecords i (withOne g p t)) (partNodes (withOne g p t)) a i next d
   adds-member none e f h =

@@ -22,7 +22,8 @@ use Rattle.satfile.proofs.Laws.Rests.{taken, left, ends-end, ends-close
 use Rattle.satfile.proofs.Laws.Stores.{adds-none, adds-member, adds-end}
 
 -- whether a group has begun, by the numbers of its nodes
-pub begun-by : {xs before after : List ℕ} {i next : ℕ} (p : Partly) → Adds xs (partNodes p) before i next after → eqb next i ≡ not (isBegun p)
+pub begun-by : {xs before after : List ℕ} {i next : ℕ} (p : Partly) → Adds xs (partNodes p) before i next after
+    → eqb next i ≡ not (isBegun p)
 begun-by {i = i} {next = next} none a = eq-eqb next i (a .nodes ∙ omega arith)
 begun-by {i = i} {next = next} (some t) a = ne-eqb next i (λ e. omega (arith, a .nodes, size-some t))
 
@@ -107,7 +108,7 @@ pub record Grouping (v d : ℕ) (g : Group) (text before : List ℕ) (at i : ℕ
   pub few : node + at ≤ i + place
   pub wide : isBegun part ≡ true → place < length text → (getD text place 0 ≡ 41 → ⊥) → node + 1 + at ≤ i + place
 
-module _ (v d : ℕ) (g : Group) (text before : List ℕ) (at i : ℕ) where
+module _ {v d : ℕ} {g : Group} {text before : List ℕ} {at i : ℕ} where
   pub group-start : {place : ℕ} → at ≤ length text → Skipped text at place → Grouping v d g text before at i before place i
   group-start {place} h s = record {
     fuel = length (drop at text);

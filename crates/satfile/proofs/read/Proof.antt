@@ -83,7 +83,8 @@ found : (c : tie.After-first2) →
     let read = read-in (known-of c) in
     let list = known-of c .before in
     DoneTo (text-of read) (0 ∷ []) (read .read .result .place) 0
-    (wholeIn (read .read .result .value) (drop (read .read .result .place) (text-of read))) (c .first2 .given .0 .0) (c .first2 .given .0 .1 .0)
+    (wholeIn (read .read .result .value) (drop (read .read .result .place) (text-of read)))
+    (c .first2 .given .0 .0) (c .first2 .given .0 .1 .0)
     (list .list .last .1 .1 .1 .1 .1 .1 .0)
 found c =
     let read = read-in (known-of c) in

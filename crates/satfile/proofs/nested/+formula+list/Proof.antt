@@ -16,7 +16,8 @@ use Rattle.satfile.specs.Inner.Parts.{OpenTo, DoneTo}
 use Rattle.satfile.proofs.Laws.Tells.{begin-leaf, begin-open, begin-wrong, told-done, told-wrong}
 use Rattle.satfile.proofs.Laws.Begins.{leaf-done, leaf-roomy, open-readable, open-told, formula-wrong}
 use Rattle.satfile.proofs.Laws.Turns.{Grouping, group-start}
-use Rattle.satfile.proofs.Laws.Turns.{takes-by, full-by, group-over, group-lacks, group-readable, group-wrong, group-unparted, group-folding}
+use Rattle.satfile.proofs.Laws.Turns.{takes-by, full-by, group-over, group-lacks, group-readable, group-wrong}
+use Rattle.satfile.proofs.Laws.Turns.{group-unparted, group-folding}
 use Rattle.satfile.proofs.Laws.Turns.{group-next, ahead, closes-within, group-ending, group-done}
 use Rattle.satfile.proofs.nested.formula.Reads as formula
 use Rattle.satfile.proofs.nested.formula.Kinds as formula-kinds
@@ -114,11 +115,13 @@ module _ (t : ℕ) where
       (leaf .leaf .ensures)
 
   -- a group
-  abbrev begin-of : formula-lts.After-group (formula-calls t) (formula-at t) formula.Post
-      → formula-lts.After-begin (formula-calls t) (formula-at t) formula.Post
+  abbrev Group : Type 0
+  Group = formula-lts.After-group (formula-calls t) (formula-at t) formula.Post
+
+  abbrev begin-of : Group → formula-lts.After-begin (formula-calls t) (formula-at t) formula.Post
   begin-of c = c .before .before
 
-  opened : (c : formula-lts.After-group (formula-calls t) (formula-at t) formula.Post) →
+  opened : (c : Group) →
       let a = begin-of c .before .before .before .args in
       OpenTo (a .text .now) (beginIn (a .options) (a .depth) (drop (a .at) (a .text .now))) (c .group .given .0 .0) (a .at)
       (c .group .given .0 .1 .0) (a .depth)
@@ -161,48 +164,85 @@ module _ (t : ℕ) where
         same = refl;
       }
 
-  -- the loop
+  -- the loop, and its places: the group goes on, takes a member, has read it; or it ends, and has its members
+  abbrev Start : Type 0
+  Start = list-lts.Start (list-calls t) (list-at t) list.Post Inv μ
+
+  abbrev Loop : Type 0
+  Loop = list-lts.At-loop (list-calls t) (list-at t) list.Post Inv μ
+
+  abbrev Many : Type 0
+  Many = list-lts.After-is-many (list-calls t) (list-at t) list.Post Inv μ
+
+  abbrev Goes : Type 0
+  Goes = list-lts.Then1 (list-calls t) (list-at t) list.Post Inv μ
+
+  abbrev Open : Type 0
+  Open = list-lts.After-is-open (list-calls t) (list-at t) list.Post Inv μ
+
+  abbrev Takes : Type 0
+  Takes = list-lts.Else2 (list-calls t) (list-at t) list.Post Inv μ
+
+  abbrev Read : Type 0
+  Read = list-lts.After-slice-known2 (list-calls t) (list-at t) list.Post Inv μ
+
+  abbrev Member : Type 0
+  Member = list-lts.After-known-told (list-calls t) (list-at t) list.Post Inv μ
+
+  abbrev Fold : Type 0
+  Fold = list-lts.After-fold (list-calls t) (list-at t) list.Post Inv μ
+
+  abbrev Turn : Type 0
+  Turn = list-lts.After-skip2 (list-calls t) (list-at t) list.Post Inv μ
+
+  abbrev Ends : Type 0
+  Ends = list-lts.Else1 (list-calls t) (list-at t) list.Post Inv μ
+
+  abbrev Full : Type 0
+  Full = list-lts.After-is-full (list-calls t) (list-at t) list.Post Inv μ
+
+  abbrev Whole : Type 0
+  Whole = list-lts.Else4 (list-calls t) (list-at t) list.Post Inv μ
+
   starts : list-lts.Need-loop-holds (list-calls t) (list-at t) list.Post Inv μ
   starts c =
       let s = c .before .before .before .before in
       let a = s .args in
-      group-start (a .options) (a .depth) (a .group) (a .text .now) (a .table .now) (a .at) (a .next) (s .pre .1 .within) (c .skip .ensures)
+      group-start (s .pre .1 .within) (c .skip .ensures)
 
-  abbrev many-of : list-lts.At-loop (list-calls t) (list-at t) list.Post Inv μ → list-lts.After-is-many (list-calls t) (list-at t) list.Post Inv μ
+  abbrev many-of : Loop → Many
   many-of c = c .before .before
 
-  abbrev start-of : list-lts.At-loop (list-calls t) (list-at t) list.Post Inv μ → list-lts.Start (list-calls t) (list-at t) list.Post Inv μ
+  abbrev start-of : Loop → Start
   start-of c = many-of c .before .before .before
 
   -- the group goes on: whether it takes a member more
-  goes-on : (c : list-lts.Then1 (list-calls t) (list-at t) list.Post Inv μ) →
+  goes-on : (c : Goes) →
       let a = start-of (c .before .before) .args in endsAt (a .group) (drop (c .before .before .loop .i) (a .text .now)) ≡ false
   goes-on c = sym (c .before .is-end .ensures) ∙ not-true (c .before .is-end .result) (c .if1 .taken)
 
-  abbrev loop-of : list-lts.After-is-open (list-calls t) (list-at t) list.Post Inv μ → list-lts.At-loop (list-calls t) (list-at t) list.Post Inv μ
+  abbrev loop-of : Open → Loop
   loop-of c = c .before .before .before
 
-  taking : (c : list-lts.After-is-open (list-calls t) (list-at t) list.Post Inv μ) →
+  taking : (c : Open) →
       let loop = loop-of c in c .is-open .result ≡ takes (start-of loop .args .group) (loop .loop .inv .part)
   taking c =
       let loop = loop-of c in
       let a = start-of loop .args in
-      takes-by (a .options) (a .depth) (a .group) (a .text .now) (a .table .now) (a .at) (a .next) (loop .loop .inv)
-      (many-of loop .is-many .result) (c .is-open .result) (many-of loop .is-many .ensures) (c .is-open .ensures)
+      takes-by (loop .loop .inv) (many-of loop .is-many .result) (c .is-open .result) (many-of loop .is-many .ensures) (c .is-open .ensures)
 
   no-more : list-lts.Need-returns (list-calls t) (list-at t) list.Post Inv μ
   no-more c =
       let test = c .before in
       let loop = loop-of test in
       let a = start-of loop .args in
-      group-over (a .options) (a .depth) (a .group) (a .text .now) (a .table .now) (a .at) (a .next) (loop .loop .inv)
-      (goes-on (test .before)) (sym (taking test) ∙ not-true (test .is-open .result) (c .if2 .taken))
+      group-over (loop .loop .inv) (goes-on (test .before)) (sym (taking test) ∙ not-true (test .is-open .result) (c .if2 .taken))
 
   -- a member
-  abbrev open-of : list-lts.Else2 (list-calls t) (list-at t) list.Post Inv μ → list-lts.After-is-open (list-calls t) (list-at t) list.Post Inv μ
+  abbrev open-of : Takes → Open
   open-of c = c .before
 
-  takes-one : (c : list-lts.Else2 (list-calls t) (list-at t) list.Post Inv μ) →
+  takes-one : (c : Takes) →
       let loop = loop-of (open-of c) in takes (start-of loop .args .group) (loop .loop .inv .part) ≡ true
   takes-one c = sym (taking (open-of c)) ∙ not-false (open-of c .is-open .result) (c .if2 .left)
 
@@ -212,17 +252,16 @@ module _ (t : ℕ) where
       let s = start-of loop in
       let a = s .args in (
         omega (arith, s .pre .0),
-        group-readable (a .options) (a .depth) (a .group) (a .text .now) (a .table .now) (a .at) (a .next) (loop .loop .inv)
-            (s .pre .1 .few),
+        group-readable (loop .loop .inv) (s .pre .1 .few),
       )
 
-  abbrev else-of : list-lts.After-slice-known2 (list-calls t) (list-at t) list.Post Inv μ → list-lts.Else2 (list-calls t) (list-at t) list.Post Inv μ
+  abbrev else-of : Read → Takes
   else-of c = c .before .before .before .before
 
-  abbrev known-of : list-lts.After-known-told (list-calls t) (list-at t) list.Post Inv μ → list-lts.After-slice-known2 (list-calls t) (list-at t) list.Post Inv μ
+  abbrev known-of : Member → Read
   known-of c = c .before .before .before
 
-  member : (c : list-lts.After-known-told (list-calls t) (list-at t) list.Post Inv μ) →
+  member : (c : Member) →
       let formula = known-of c .before .before in
       let loop = loop-of (open-of (else-of (known-of c))) in
       let a = start-of loop .args in
@@ -243,8 +282,7 @@ module _ (t : ℕ) where
       let else = else-of (known-of known) in
       let loop = loop-of (open-of else) in
       let a = start-of loop .args in
-      group-unparted (a .options) (a .depth) (a .group) (a .text .now) (a .table .now) (a .at) (a .next) (loop .loop .inv)
-      (goes-on (open-of else .before)) (takes-one else) (member known)
+      group-unparted (loop .loop .inv) (goes-on (open-of else .before)) (takes-one else) (member known)
       (sym (test .is-parted .ensures) ∙ not-true (test .is-parted .result) (c .if3 .taken))
 
   fold-next : list-lts.Need-fold-requires (list-calls t) (list-at t) list.Post Inv μ
@@ -254,13 +292,12 @@ module _ (t : ℕ) where
       let loop = loop-of (open-of else) in
       let s = start-of loop in
       let a = s .args in
-      group-folding (a .options) (a .depth) (a .group) (a .text .now) (a .table .now) (a .at) (a .next) (loop .loop .inv)
-      (goes-on (open-of else .before)) (takes-one else) (member known) (s .pre .1 .few) (omega arith)
+      group-folding (loop .loop .inv) (goes-on (open-of else .before)) (takes-one else) (member known) (s .pre .1 .few) (omega arith)
 
-  abbrev fold-of : list-lts.After-skip2 (list-calls t) (list-at t) list.Post Inv μ → list-lts.After-fold (list-calls t) (list-at t) list.Post Inv μ
+  abbrev fold-of : Turn → Fold
   fold-of c = c .before .before .before
 
-  abbrev known-in : list-lts.After-fold (list-calls t) (list-at t) list.Post Inv μ → list-lts.After-known-told (list-calls t) (list-at t) list.Post Inv μ
+  abbrev known-in : Fold → Member
   known-in c = c .before .before .before .before
 
   less : list-lts.Need-loop-less (list-calls t) (list-at t) list.Post Inv μ
@@ -269,8 +306,7 @@ module _ (t : ℕ) where
       let else = else-of (known-of known) in
       let loop = loop-of (open-of else) in
       let a = start-of loop .args in
-      let on = ahead (a .options) (a .depth) (a .group) (a .text .now) (a .table .now) (a .at) (a .next) (loop .loop .inv)
-      (goes-on (open-of else .before)) (takes-one else) (member known) in
+      let on = ahead (loop .loop .inv) (goes-on (open-of else .before)) (takes-one else) (member known) in
       omega (arith, on, c .skip2 .ensures .onward, member known .to .within)
 
   again : list-lts.Need-loop-again (list-calls t) (list-at t) list.Post Inv μ
@@ -281,8 +317,7 @@ module _ (t : ℕ) where
       let else = else-of (known-of known) in
       let loop = loop-of (open-of else) in
       let a = start-of loop .args in
-      group-next (a .options) (a .depth) (a .group) (a .text .now) (a .table .now) (a .at) (a .next) (loop .loop .inv)
-      (goes-on (open-of else .before)) (takes-one else) (member known) (fold .fold .ensures)
+      group-next (loop .loop .inv) (goes-on (open-of else .before)) (takes-one else) (member known) (fold .fold .ensures)
       (sym (test .before .is-parted .ensures) ∙ not-false (test .before .is-parted .result) (test .if3 .left)) (c .skip2 .ensures)
 
   no-member : list-lts.Need-returns-3 (list-calls t) (list-at t) list.Post Inv μ
@@ -293,34 +328,31 @@ module _ (t : ℕ) where
       let else = else-of known in
       let loop = loop-of (open-of else) in
       let a = start-of loop .args in
-      group-wrong (a .options) (a .depth) (a .group) (a .text .now) (a .table .now) (a .at) (a .next) (loop .loop .inv)
-      (goes-on (open-of else .before)) (takes-one else)
+      group-wrong (loop .loop .inv) (goes-on (open-of else .before)) (takes-one else)
       (told-wrong (a .text .now) (loop .loop .table) (loop .loop .i) (loop .loop .behind) _ (formula .formula .result) _
       (formula .formula .ensures) _ (place .place .given .1))
 
   -- the group ends: whether it has its members
-  ends-here : (c : list-lts.Else1 (list-calls t) (list-at t) list.Post Inv μ) →
+  ends-here : (c : Ends) →
       let a = start-of (c .before .before) .args in endsAt (a .group) (drop (c .before .before .loop .i) (a .text .now)) ≡ true
   ends-here c = sym (c .before .is-end .ensures) ∙ not-false (c .before .is-end .result) (c .if1 .left)
 
-  abbrev loop-in : list-lts.After-is-full (list-calls t) (list-at t) list.Post Inv μ → list-lts.At-loop (list-calls t) (list-at t) list.Post Inv μ
+  abbrev loop-in : Full → Loop
   loop-in c = c .before .before .before
 
-  filling : (c : list-lts.After-is-full (list-calls t) (list-at t) list.Post Inv μ) →
+  filling : (c : Full) →
       let loop = loop-in c in c .is-full .result ≡ isFull (start-of loop .args .group) (loop .loop .inv .part)
   filling c =
       let loop = loop-in c in
       let a = start-of loop .args in
-      full-by (a .options) (a .depth) (a .group) (a .text .now) (a .table .now) (a .at) (a .next) (loop .loop .inv)
-      (many-of loop .is-many .result) (c .is-full .result) (many-of loop .is-many .ensures) (c .is-full .ensures)
+      full-by (loop .loop .inv) (many-of loop .is-many .result) (c .is-full .result) (many-of loop .is-many .ensures) (c .is-full .ensures)
 
   lacks : list-lts.Need-returns-4 (list-calls t) (list-at t) list.Post Inv μ
   lacks c =
       let full = c .before in
       let loop = loop-in full in
       let a = start-of loop .args in
-      group-lacks (a .options) (a .depth) (a .group) (a .text .now) (a .table .now) (a .at) (a .next) (loop .loop .inv)
-      (ends-here (full .before)) (sym (filling full) ∙ not-true (full .is-full .result) (c .if4 .taken))
+      group-lacks (loop .loop .inv) (ends-here (full .before)) (sym (filling full) ∙ not-true (full .is-full .result) (c .if4 .taken))
 
   past-next : list-lts.Need-past-requires (list-calls t) (list-at t) list.Post Inv μ
   past-next c κs =
@@ -329,12 +361,11 @@ module _ (t : ℕ) where
       let a = start-of loop .args in
       record {
         last = λ n.
-            let h = closes-within (a .options) (a .depth) (a .group) (a .text .now) (a .table .now) (a .at) (a .next) (loop .loop .inv)
-            (ends-here (full .before)) n in
+            let h = closes-within (loop .loop .inv) (ends-here (full .before)) n in
             omega (arith, h);
       }
 
-  has-all : (c : list-lts.Else4 (list-calls t) (list-at t) list.Post Inv μ) →
+  has-all : (c : Whole) →
       let loop = loop-in (c .before) in isFull (start-of loop .args .group) (loop .loop .inv .part) ≡ true
   has-all c = sym (filling (c .before)) ∙ not-false (c .before .is-full .result) (c .if4 .left)
 
@@ -345,8 +376,7 @@ module _ (t : ℕ) where
       let loop = loop-in full in
       let s = start-of loop in
       let a = s .args in
-      group-ending (a .options) (a .depth) (a .group) (a .text .now) (a .table .now) (a .at) (a .next) (loop .loop .inv)
-      (ends-here (full .before)) (has-all else) (s .pre .1 .few) (omega arith)
+      group-ending (loop .loop .inv) (ends-here (full .before)) (has-all else) (s .pre .1 .few) (omega arith)
 
   done : list-lts.Need-returns-5 (list-calls t) (list-at t) list.Post Inv μ
   done c =
@@ -356,8 +386,7 @@ module _ (t : ℕ) where
       let full = else .before in
       let loop = loop-in full in
       let a = start-of loop .args in
-      group-done (a .options) (a .depth) (a .group) (a .text .now) (a .table .now) (a .at) (a .next) (loop .loop .inv)
-      (ends-here (full .before)) (has-all else) (past .past .ensures) (end .end .ensures)
+      group-done (loop .loop .inv) (ends-here (full .before)) (has-all else) (past .past .ensures) (end .end .ensures)
 
 pub +formula+list-spec : {M : Type 1} → statement M
 +formula+list-spec =
