@@ -21,8 +21,11 @@ use Rattle.satfile.proofs.read.Statement.{statement}
 use Rattle.satfile.proofs.read.Tie as tie
 
 -- the text, the table, and the head that was found
+abbrev classes-of : tie.After-read → tie.After-classes
+classes-of c = c .before .before .before
+
 abbrev start-of : tie.After-read → tie.Start
-start-of c = c .before .before .before .before .before .before
+start-of c = classes-of c .before .before .before
 
 abbrev text-of : tie.After-read → List ℕ
 text-of c = start-of c .args .text .now
@@ -91,6 +94,9 @@ found c =
     let list = known-of c .before in
     told-done (text-of read) _ (read .read .result .place) 0 _ (list .list .result) _ (list .list .ensures) _ _ (c .first2 .given .1)
 
+abbrev first-of : tie.Else3 → tie.After-first2
+first-of c = c .before .before .before
+
 many : tie.Need-returns-2
 many c =
     let first = c .before .before in
@@ -133,7 +139,7 @@ read-spec =
     many
     (λ c. search needs)
     short
-    (λ c κs. readable (read-of (else-of (c .before .before .before .before .before .before))))
+    (λ c κs. readable (read-in (known-of (first-of (c .before)))))
     (λ c. search needs)
     wrong
     (λ c. search needs)

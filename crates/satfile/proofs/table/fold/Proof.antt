@@ -20,7 +20,8 @@ joined c =
 
 roomy : tie.Need-add-result
 roomy c =
-    let else = c .before .before .before .before .before in
+    let put = c .before .before in
+    let else = put .before .before .before in
     omega (arith, else .before .before .pre .last (else .if1 .left))
 
 pub fold-spec : {M : Type 1} → statement M
