@@ -82,6 +82,39 @@ pub fn blocks(table: &mut Vec<u8>, number: usize, count: usize) {
     }
 }
 
+/// An and, an or, an implication or an equivalence of the node before with one of five further below.
+pub fn tangled(table: &mut Vec<u8>, number: usize, _: usize) {
+    let mixed = number.wrapping_mul(2_654_435_761) >> 7;
+    push(
+        table,
+        4 + (mixed % 4) as u8,
+        number - 1,
+        number - 2 - mixed / 4 % 5,
+    );
+}
+
+/// The equivalence of the node before with itself.
+pub fn doubled(table: &mut Vec<u8>, number: usize, _: usize) {
+    push(table, 7, number - 1, number - 1);
+}
+
+/// So many ands, each of the next two of so many symbols, in one or that is joined from the left.
+pub fn disjunction(ands: usize, symbols: usize) -> Vec<u8> {
+    let mut table = vec![];
+    for symbol in 1..=symbols {
+        push(&mut table, 2, symbol, 0);
+    }
+    for number in 0..ands {
+        let and = table.len() / 5;
+        let (a, b) = (2 * number % symbols, (2 * number + 1) % symbols);
+        push(&mut table, 4, a, b);
+        if number > 0 {
+            push(&mut table, 5, and - 1, and);
+        }
+    }
+    table
+}
+
 /// A guard's option count and table.
 pub struct Guard {
     pub options: u32,

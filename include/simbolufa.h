@@ -143,9 +143,9 @@
  * The version of this header, and of the library that is installed with it. CHANGELOG.md says what may change in which
  * version.
  */
-#define SIMBOLUFA_VERSION "2.2.0"
-#define SIMBOLUFA_VERSION_MAJOR 2
-#define SIMBOLUFA_VERSION_MINOR 2
+#define SIMBOLUFA_VERSION "3.0.0"
+#define SIMBOLUFA_VERSION_MAJOR 3
+#define SIMBOLUFA_VERSION_MINOR 0
 #define SIMBOLUFA_VERSION_PATCH 0
 
 #ifdef __cplusplus
@@ -252,8 +252,13 @@ uint32_t simbolufa_measure(const uint8_t *table, size_t table_len, uint32_t opti
  * byte a node. What it holds before the call plays no part.
  *
  * Nodes that may be renamed are tried from the highest number down. A node is put in where the clause
- * total, at its ceiling, becomes lower. A larger allowance renames at least the same nodes, and its
- * clause total is not higher.
+ * total, at its ceiling, becomes lower. If that ends at the ceiling, and the allowance is enough for all
+ * of these nodes, they are all put in instead. Then they are tried again from the highest down, and a
+ * node is taken out where the clause total does not become higher. A larger allowance renames at least
+ * the same nodes, and its clause total is not higher.
+ *
+ * With an allowance of 1,022 or more the clause total is always below 65,535: the set is never refusal 5
+ * of simbolufa_convert. It may be 6, since literals play no part here.
  *
  * Returns 0, 1, 2, 3, 12, 13, 14, 4 or 11. On 0 every byte of `set` is written. The values of the answer
  * part are the number of renamed nodes and the clause total. A total of 65,535 is not refused here.

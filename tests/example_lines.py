@@ -47,6 +47,21 @@ def folded(found):
     return symbol + "".join(folds)
 
 
+def joined(found):
+    outer, inner, count = (int(word) for word in found.groups())
+    symbols = "".join(f"02{number(symbol)}{number(0)}" for symbol in range(1, 2 * count + 1))
+    table = symbols + f"{inner:02x}{number(0)}{number(1)}"
+    for at in range(2, 2 * count, 2):
+        # The last node joined so far is right before the next one of the inner kind.
+        last = 2 * count + at - 2
+        table += f"{inner:02x}{number(at)}{number(at + 1)}{outer:02x}{number(last)}{number(last + 1)}"
+    return table
+
+
+def numbers(found):
+    return "".join(int(word).to_bytes(4, "little", signed=True).hex() for word in found[1].split(" "))
+
+
 def nodes(found):
     """The node file of an option count and a table."""
     options, table = int(found[1]), bytes.fromhex(found[2])
@@ -71,6 +86,8 @@ MACROS = [
     (r"\{over (\d+) (\d+) (\d+) (\d+)\}", over),
     (r"\{pairs (\d+) (\d+) (\d+)\}", pairs),
     (r"\{folded (\d+) (\d+)\}", folded),
+    (r"\{joined (\d+) (\d+) (\d+)\}", joined),
+    (r"\{numbers ([-0-9 ]+)\}", numbers),
     (r"\{nodes (\d+) ([0-9a-f]*)\}", nodes),
     (r"\{lent (\d+) ([-0-9a-f+*]+)\}", lent),
 ]

@@ -256,8 +256,6 @@ REFUSED = [
     (SEVEN + b"7\t2\t0\t0\n", 14, 7, WORDS[14]),
     # The lowest wrong node decides, whatever its fault is.
     (b"options\t2\n0\t2\t3\t0\n1\t9\t0\t0\n", 14, 0, WORDS[14]),
-    # No single renaming brings the clauses below the ceiling, so nothing is renamed.
-    (doubled(4, 40), 5, 0, WORDS[5]),
     (doubled(5, 20), 6, 0, WORDS[6]),
     (doubled(5, 14), 7, 0, WORDS[7]),
 ]

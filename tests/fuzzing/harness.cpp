@@ -118,6 +118,7 @@ Bytes choose(const Case &from, const Formula &formula, size_t set_length, size_t
     must(picks == said.first && picks <= from.allowance(), "choose: other picks");
     Said total = measure(from, {formula.options, formula.table, chosen}, SIMBOLUFA_ANSWER_LENGTH);
     must(total.number == 0 && total.first == said.second, "choose: another total than the set's");
+    must(from.allowance() < formula.nodes() || said.second < clause_ceiling, "choose: too many clauses with all allowed");
     return chosen;
 }
 

@@ -1,16 +1,20 @@
-// The choosing pass: the nodes that may be renamed, the highest first.
-ghost use mathlib.Core.Bool.{_&&_};
+// The two passes over the nodes that may be renamed, the highest first: one puts nodes in, the other takes nodes out.
+ghost use mathlib.Core.Bool.{_&&_, _||_, cond, true, false};
 ghost use mathlib.Core.List.{[]};
 ghost use mathlib.Core.Path.{_≡_};
 ghost use Prim.Native.Nat.{_<_};
 ghost use lib.Dec.{ltb};
-ghost use lib.ListN.{length, replicate};
 ghost use Rattle.formula.specs.Tables.{mostNodes, nodesOf};
-ghost use Rattle.clausal.specs.Totals.{choose};
 ghost use Rattle.clausal.specs.Clauses.{renaming};
 ghost use Rattle.totals.specs.Inner.Columns.{cell};
+ghost use Rattle.clausal.specs.Totals.{clauseCeiling};
+ghost use Rattle.clausal.specs.Choosing.{choose};
 ghost use Rattle.clausal.specs.Calls.{told, chosenUnder, chosenBy};
-ghost use Rattle.choose.specs.Inner.Visits.{Choosable, Passable, Visitable, Attempted, Visited};
+ghost use Rattle.choose.specs.Inner.Visits.{byteOf, keptBy, visitIn, visitOut, turnOf, passOf, Choosable, Passable, Visitable};
+ghost use Rattle.choose.specs.Inner.Visits.{Triable, Attempted, Visited};
+use crate::bytes::clear;
+use crate::bytes::count_all;
+use crate::bytes::put_all;
 use answer::Answer;
 use answer::is_refusal;
 use capped::total::ClauseTotal;
@@ -28,6 +32,12 @@ pub struct Picked {
     pub total: ClauseTotal,
 }
 
+// What a pass does: it takes nodes out, or it puts nodes in, while fewer than the allowance are in.
+pub struct Way {
+    pub drops: bool,
+    pub allowance: u32,
+}
+
 // Whether P and N of node `i` have at most one clause each: to rename such a node never lowers the total.
 fn is_small(clauses: &[[u16; 1024]; 2], i: usize) -> bool
     requires { ⌜ i < mostNodes ⌝ }
@@ -39,31 +49,77 @@ fn is_small(clauses: &[[u16; 1024]; 2], i: usize) -> bool
     false
 }
 
-// Puts node `i` in where the total falls.
+// The byte that a pass gives to the nodes that it tries.
+fn byte_of(drops: bool) -> u8
+    ensures { λ r. ⌜ r ≡ byteOf drops ⌝ }
+{
+    if drops {
+        return 0;
+    }
+    1
+}
+
+// Where nodes are put in, no node below `i` is in yet: the lowest one whose definition may count.
+fn lowest(drops: bool, i: usize) -> usize
+    ensures { λ r. ⌜ r ≡ cond drops 0 i ⌝ }
+{
+    if drops {
+        return 0;
+    }
+    i
+}
+
+// Whether a trial is kept: the total falls, or, where a node is taken out, it does not rise.
+fn is_kept(drops: bool, before: ClauseTotal, after: ClauseTotal) -> bool
+    ensures { λ r. ⌜ r ≡ keptBy drops (before .n) (after .n) ⌝ }
+{
+    if drops {
+        return after.n <= before.n;
+    }
+    after.n < before.n
+}
+
+// Tries node `i`, and undoes it where the trial is not kept.
 fn attempt(
     table: &[u8],
     marks: &[u8; 1024],
+    drops: bool,
     i: usize,
     picked: Picked,
     set: &mut [u8],
     clauses: &mut [[u16; 1024]; 2],
     literals: &mut [[u32; 1024]; 2],
 ) -> Picked
-    requires { ⌜ Visitable (now table) (now marks) i (picked .picks) (picked .total .n) (now set) (now clauses) (now literals) ⌝ }
-    ensures { λ r. ⌜ Attempted (nodesOf (now (table .entry))) i (record { picks = picked .picks; chosen = now (set .entry) })
+    requires { ⌜ Triable drops (now table) (now marks) i (picked .picks) (picked .total .n) (now set) (now clauses) (now literals) ⌝ }
+    ensures { λ r. ⌜ Attempted drops (nodesOf (now (table .entry))) i (record { picks = picked .picks; chosen = now (set .entry) })
         (record { picks = r .picks; chosen = now (set .exit) }) (r .total .n) (now (clauses .exit)) (now (literals .exit)) ⌝ }
 {
     let picks = picked.picks;
     let before = picked.total;
-    let total = trial(table, marks, set, i, i, 1, clauses, literals);
-    if total.n < before.n {
+    let total = trial(
+        table,
+        marks,
+        set,
+        lowest(drops, i),
+        i,
+        byte_of(drops),
+        clauses,
+        literals,
+    );
+    if !is_kept(drops, before, total) {
+        set[i] = byte_of(!drops);
+        return picked;
+    }
+    if drops {
         return Picked {
-            picks: picks + 1,
+            picks: picks - 1,
             total,
         };
     }
-    set[i] = 0;
-    picked
+    Picked {
+        picks: picks + 1,
+        total,
+    }
 }
 
 // Visits node `i`: it goes in where fewer nodes than the allowance are in, it may be renamed, and the total falls.
@@ -77,9 +133,10 @@ fn visit(
     clauses: &mut [[u16; 1024]; 2],
     literals: &mut [[u32; 1024]; 2],
 ) -> Picked
-    requires { ⌜ Visitable (now table) (now marks) i (picked .picks) (picked .total .n) (now set) (now clauses) (now literals) ⌝ }
-    ensures { λ r. ⌜ Visited allowance (nodesOf (now (table .entry))) i (record { picks = picked .picks; chosen = now (set .entry) })
-        (record { picks = r .picks; chosen = now (set .exit) }) (r .total .n) (now (clauses .exit)) (now (literals .exit)) ⌝ }
+    requires { ⌜ Visitable false (now table) (now marks) i (picked .picks) (picked .total .n) (now set) (now clauses) (now literals) ⌝ }
+    ensures { λ r. ⌜ Visited false (visitIn allowance (nodesOf (now (table .entry)))) (nodesOf (now (table .entry))) i
+        (record { picks = picked .picks; chosen = now (set .entry) }) (record { picks = r .picks; chosen = now (set .exit) })
+        (r .total .n) (now (clauses .exit)) (now (literals .exit)) ⌝ }
 {
     if picked.picks >= allowance {
         return picked;
@@ -90,40 +147,88 @@ fn visit(
     if is_small(clauses, i) {
         return picked;
     }
-    attempt(table, marks, i, picked, set, clauses, literals)
+    attempt(table, marks, false, i, picked, set, clauses, literals)
 }
 
-// Takes every node out of a set.
-fn clear(set: &mut [u8])
-    ensures { λ _. ⌜ now (set .exit) ≡ replicate (length (now (set .entry))) 0 ⌝ }
+// Visits node `i` again: it goes out where it may be renamed and the total does not rise.
+fn revisit(
+    table: &[u8],
+    marks: &[u8; 1024],
+    i: usize,
+    picked: Picked,
+    set: &mut [u8],
+    clauses: &mut [[u16; 1024]; 2],
+    literals: &mut [[u32; 1024]; 2],
+) -> Picked
+    requires { ⌜ Visitable true (now table) (now marks) i (picked .picks) (picked .total .n) (now set) (now clauses) (now literals) ⌝ }
+    ensures { λ r. ⌜ Visited true (visitOut (nodesOf (now (table .entry)))) (nodesOf (now (table .entry))) i
+        (record { picks = picked .picks; chosen = now (set .entry) }) (record { picks = r .picks; chosen = now (set .exit) })
+        (r .total .n) (now (clauses .exit)) (now (literals .exit)) ⌝ }
 {
-    let mut at = 0;
-    while at < set.len() {
-        set[at] = 0;
-        at += 1;
+    if may_rename(table, marks, i) {
+        return attempt(table, marks, true, i, picked, set, clauses, literals);
     }
+    picked
 }
 
-// The pass over all nodes, from the empty set.
-fn pass(table: &[u8], marks: &[u8; 1024], allowance: u32, set: &mut [u8]) -> Picked
-    requires { ⌜ Passable (now table) (now marks) (now set) ⌝ }
+// The visit of node `i` in a pass.
+fn turn(
+    table: &[u8],
+    marks: &[u8; 1024],
+    way: Way,
+    i: usize,
+    picked: Picked,
+    set: &mut [u8],
+    clauses: &mut [[u16; 1024]; 2],
+    literals: &mut [[u32; 1024]; 2],
+) -> Picked
+    requires { ⌜ Visitable (way .drops) (now table) (now marks) i (picked .picks) (picked .total .n) (now set) (now clauses) (now literals) ⌝ }
+    ensures { λ r. ⌜ Visited (way .drops) (turnOf way (nodesOf (now (table .entry)))) (nodesOf (now (table .entry))) i
+        (record { picks = picked .picks; chosen = now (set .entry) }) (record { picks = r .picks; chosen = now (set .exit) })
+        (r .total .n) (now (clauses .exit)) (now (literals .exit)) ⌝ }
+{
+    if way.drops {
+        return revisit(table, marks, i, picked, set, clauses, literals);
+    }
+    visit(
+        table,
+        marks,
+        way.allowance,
+        i,
+        picked,
+        set,
+        clauses,
+        literals,
+    )
+}
+
+// A pass over all nodes, from the set that it begins with and its picks.
+fn pass(table: &[u8], marks: &[u8; 1024], way: Way, picks: u32, set: &mut [u8]) -> Picked
+    requires { ⌜ Passable (way .drops) (now table) (now marks) picks (now set) ⌝ }
     ensures { λ r. ⌜ record { answer = Answer.Accepted (r .picks) (r .total .n); output = now (set .exit) } ≡ told (renaming 0 [])
-        (nodesOf (now (table .entry))) (choose allowance (renaming 0 []) (nodesOf (now (table .entry)))) ⌝ }
+        (nodesOf (now (table .entry))) (passOf way (nodesOf (now (table .entry)))) ⌝ }
 {
     let mut clauses = [[0u16; MOST_NODES]; 2];
     let mut literals = [[0u32; MOST_NODES]; 2];
     fill(table, set, 0, &mut clauses, &mut literals);
     let count = table.len() / NODE_BYTES;
-    let sum = whole(table, marks, set, count, &clauses, &literals);
+    let sum = whole(
+        table,
+        marks,
+        set,
+        lowest(way.drops, count),
+        &clauses,
+        &literals,
+    );
     let total = sum.clauses;
-    let mut picked = Picked { picks: 0, total };
+    let mut picked = Picked { picks, total };
     let mut i = count;
     while 0 < i {
         i -= 1;
-        picked = visit(
+        picked = turn(
             table,
             marks,
-            allowance,
+            way,
             i,
             picked,
             set,
@@ -132,6 +237,50 @@ fn pass(table: &[u8], marks: &[u8; 1024], allowance: u32, set: &mut [u8]) -> Pic
         );
     }
     picked
+}
+
+// Whether the first pass decides: it ends below the ceiling, or fewer nodes are allowed than may be renamed.
+fn is_settled(total: ClauseTotal, allowance: u32, all: u32) -> bool
+    ensures { λ r. ⌜ r ≡ (ltb (total .n) clauseCeiling || ltb allowance all) ⌝ }
+{
+    if total.n < ClauseTotal::CEILING {
+        return true;
+    }
+    allowance < all
+}
+
+// Chooses for a table that is right, with its marks, from the empty set.
+fn choose_marked(table: &[u8], marks: &[u8; 1024], allowance: u32, set: &mut [u8]) -> Picked
+    requires { ⌜ Passable false (now table) (now marks) 0 (now set) ⌝ }
+    ensures { λ r. ⌜ record { answer = Answer.Accepted (r .picks) (r .total .n); output = now (set .exit) } ≡ told (renaming 0 [])
+        (nodesOf (now (table .entry))) (choose allowance (renaming 0 []) (nodesOf (now (table .entry)))) ⌝ }
+{
+    let first = pass(
+        table,
+        marks,
+        Way {
+            drops: false,
+            allowance,
+        },
+        0,
+        set,
+    );
+    let all = count_all(table, marks);
+    if is_settled(first.total, allowance, all) {
+        return first;
+    }
+    put_all(table, marks, set);
+    let second = pass(
+        table,
+        marks,
+        Way {
+            drops: true,
+            allowance,
+        },
+        all,
+        set,
+    );
+    second
 }
 
 // Chooses for a table that is right.
@@ -147,7 +296,7 @@ fn choose_under(table: &[u8], allowance: u32, set: &mut [u8]) -> Answer
     clear(set);
     let mut marks = [0u8; MOST_NODES];
     mark_all(table, &mut marks);
-    let picked = pass(table, &marks, allowance, set);
+    let picked = choose_marked(table, &marks, allowance, set);
     Answer::Accepted {
         first: picked.picks,
         second: picked.total.n as u32,

@@ -13,7 +13,8 @@ use Rattle.answer.specs.declared.Answer.the-variants.{Accepted}
 use Rattle.formula.specs.Checks.{checked}
 use Rattle.formula.specs.Tables.{mostOptions, nodesOf}
 use Rattle.formula.proofs.Laws.WellFormed.{checked-accepted}
-use Rattle.clausal.specs.Totals.{choose, totalUnder, totals}
+use Rattle.clausal.specs.Totals.{totalUnder, totals}
+use Rattle.clausal.specs.Choosing.{choose}
 use Rattle.clausal.specs.Clauses.{renaming, variablesOf}
 use Rattle.clausal.specs.Output.{outputOf}
 use Rattle.clausal.proofs.Names.{helper-range}
@@ -51,7 +52,7 @@ checkWrote c = let g = checkGuard c in only (checked (g .table) (g .options))
 abbrev measureWrote : Measure → Wrote (Unit {0})
 measureWrote c = let g = measureGuard c in only (measured (g .table) (g .options) (g .set))
 
-abbrev chooseWrote : Choose → Wrote (List ℕ)
+abbrev pub chooseWrote : Choose → Wrote (List ℕ)
 chooseWrote c = let g = chooseGuard c in chosenBy (g .table) (g .options) (allowance c) (chooseSeen c .before)
 
 abbrev convertWrote : Convert → Wrote (List ℕ)

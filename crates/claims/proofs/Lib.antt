@@ -8,3 +8,4 @@ pub mod Demands
 pub mod Faults
 pub mod Sources
 pub mod Formulas
+pub mod Mended

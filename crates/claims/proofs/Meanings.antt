@@ -28,7 +28,7 @@ use Rattle.clausal.proofs.Truths.{truth-options}
 use Rattle.clausebytes.specs.Words as right
 use Rattle.clausebytes.specs.Words.{Within, Right}
 use Rattle.clausebytes.proofs.Encoded.{clauses-of-bytes, not-wrong-of-right}
-use Rattle.parts.proofs.Laws.Helpers.{below-le}
+use Rattle.clausal.proofs.Renamed.{below-le}
 use Rattle.convert.proofs.Laws.Fitted.{sizes-below}
 use Rattle.claims.specs.Calls.{Guard, nodes, names}
 use Rattle.claims.specs.Claims.{Means, decoded}

@@ -19,7 +19,8 @@ use Rattle.formula.specs.Tables.{mostNodes, mostOptions, nodesOf}
 use Rattle.formula.specs.declared.node.Node.{Node}
 use Rattle.marks.proofs.Laws.Sets.{set-accepted}
 use Rattle.formula.proofs.Laws.WellFormed.{checked-accepted}
-use Rattle.clausal.specs.Totals.{Choice, choose, totals, sizeOf}
+use Rattle.clausal.specs.Totals.{totals, sizeOf}
+use Rattle.clausal.specs.Choosing.{Choice, choose}
 use Rattle.clausal.specs.Clauses.{Clause, clausesBytes, Renaming, renaming, variablesOf}
 use Rattle.clausal.specs.Output.{outputOf}
 use Rattle.clausebytes.specs.Words.{wrongBytes, clausesOf}

@@ -18,7 +18,8 @@ use Rattle.marks.specs.Sets.{renamed}
 use Rattle.formula.specs.Tables.{nodeBytes, mostNodes, mostOptions, nodeAt, nodeCount, nodesOf, nodeIn, faultOf}
 use Rattle.formula.specs.Truths.{formulaTrue}
 use Rattle.formula.specs.declared.node.Kind.the-variants.{Symbol}
-use Rattle.clausal.specs.Totals.{Choice, choose, totalUnder, totals}
+use Rattle.clausal.specs.Totals.{clauseCeiling, totalUnder, totals}
+use Rattle.clausal.specs.Choosing.{Choice, firstPass, everything, choose}
 use Rattle.clausal.specs.Clauses.{Clause, clausesBytes, helperOf, variablesOf}
 use Rattle.clausal.specs.Meanings.{Named, satisfies, Extends}
 use Rattle.clausal.specs.Output.{Direction, outputOf}
@@ -159,6 +160,22 @@ pub record Formulas : Type 0 where
   -- R21.15: in every row the truth of that table is the truth of the text
   pub true : (c : ReadSat) → satSeen c .returned ≡ 0 → (v : ℕ) (t : Tree) → formula.Text v t (satText c) → (ρ : ℕ → Bool)
       → formulaTrue ρ (nodesOf (tableLeft c)) ≡ treeTrue ρ t
+
+-- R22.6 to R22.8: which tables the mended rule of choosing reaches, and that none of them has too many clauses under its chosen set
+pub record Mended : Type 0 where
+  -- R22.6: where the first pass ends below the ceiling, the set is the first pass'
+  pub unchanged : (c : Choose) → chooseSeen c .returned ≡ 0 → let g = chooseGuard c in
+      let d : Choice = firstPass (allowance c) (names g) (nodes g) in totalUnder (names g) (nodes g) (d .chosen) < clauseCeiling
+      → Gives (chooseSeen c) (d .picks) (totalUnder (names g) (nodes g) (d .chosen)) (d .chosen)
+  -- R22.7: at most 1,022 nodes of a table may be renamed
+  pub enough : (c : Choose) → chooseSeen c .returned ≡ 0 → everything (nodes (chooseGuard c)) .picks ≤ 1_022
+  -- R22.8: where all of them are allowed, the total that is told is below the ceiling ..
+  pub below : (c : Choose) → chooseSeen c .returned ≡ 0 → everything (nodes (chooseGuard c)) .picks ≤ allowance c
+      → second (chooseSeen c) < clauseCeiling
+  -- .. and a conversion of the same table under the set that was left is no refusal 5
+  pub converts : (c : Choose) (d : Convert) → chooseSeen c .returned ≡ 0 → everything (nodes (chooseGuard c)) .picks ≤ allowance c
+      → convertGuard d .table ≡ chooseGuard c .table → convertGuard d .options ≡ chooseGuard c .options
+      → convertGuard d .set ≡ chooseSeen c .after → convertSeen d .returned ≢ 5
 
 -- line j of a buffer, without its newline; and clause k of the bytes that a conversion has left
 abbrev pub lineIn : List ℕ → ℕ → List ℕ

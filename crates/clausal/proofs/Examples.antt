@@ -5,7 +5,7 @@ use Prim.Native.Nat.{ℕ}
 use lib.Dec.{T}
 use Rattle.laws.specs.Lists.{firstFrom, upTo}
 use Rattle.marks.specs.Marks.{downFrom}
-use Rattle.clausal.specs.Totals.{visitsFrom}
+use Rattle.clausal.specs.Choosing.{visitsFrom}
 use Rattle.clausal.specs.Clauses.{renamedBelow}
 use Rattle.clausal.specs.Output.{definitions}
 use Rattle.clausal.proofs.Notation.{nothing, renamed, allowed, Example, all, holds, p, n, false-node, true-node, symbol, not-of}

@@ -1,6 +1,7 @@
--- Theorems of the clausal transformation: examples first, then the one law and its instances, names, totals, and the meaning.
+-- Theorems of the clausal transformation: examples and cases first, then the one law and its instances, names, totals, and the meaning.
 pub mod Notation
 pub mod Examples
+pub mod Cases
 pub mod Stated
 pub mod Related
 pub mod Rows

@@ -9,7 +9,8 @@ use Rattle.answer.specs.Answers.{toldOf}
 use Rattle.formula.specs.Checks.{checked}
 use Rattle.marks.specs.Sets.{setChecked}
 use Rattle.formula.specs.Tables.{nodeRecord, nodesOf}
-use Rattle.clausal.specs.Totals.{choose, Size, sizeOf, trueTotals, totals}
+use Rattle.clausal.specs.Choosing.{choose}
+use Rattle.clausal.specs.Totals.{Size, sizeOf, trueTotals, totals}
 use Rattle.clausal.specs.Clauses.{variablesOf, renaming, Literal, Clause, clausesBytes}
 use Rattle.clausal.specs.Output.{outputOf}
 use Rattle.answer.specs.declared.Answer.{Answer}
@@ -72,7 +73,7 @@ pub record Example : Type 0 where
   pub first : List ℕ
 
 -- equality, as a test
-abbrev same : {A : Type 0} → (A → A → Bool) → List A → List A → Bool
+abbrev pub same : {A : Type 0} → (A → A → Bool) → List A → List A → Bool
 same eq [] [] = true
 same eq [] (y ∷ ys) = false
 same eq (x ∷ xs) [] = false

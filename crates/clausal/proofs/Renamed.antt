@@ -1,18 +1,28 @@
 -- The byte of a node in a set: which nodes are renamed when it is set, and how many.
 -- Assumes nothing.
-use mathlib.Core.Path.{_≡_, refl, ap, _∙_}
+use mathlib.Core.Path.{_≡_, refl, sym, ap, _∙_}
 use mathlib.Core.Logic.{_≢_}
 use mathlib.Core.Bool.{Bool, true, false, cond}
 use mathlib.Core.List.{List}
-use Prim.Native.Nat.{ℕ, zero, suc, _+_, _<_}
+use Prim.Native.Nat.{ℕ, zero, suc, _+_, _≤_, _<_}
 use native.Mathlib.Omega.{arith}
 use lib.Dec.{eqb}
-use lib.ListN.{length, set}
-use lib.Seq.{getD-set-same, getD-set-other}
+use lib.ListN.{length, getD, set, length-set}
+use lib.Seq.{getD-set-same, getD-set-other, set-set, set-getD}
 use borrow.Author.Tests.{eqb-true, eqb-false}
 use Rattle.marks.specs.Sets.{renamed}
 use Rattle.clausal.specs.Clauses.{renamedBelow}
 use Rattle.clausal.proofs.Helpers.{renamed-inside}
+
+-- a node counts once at most, and so do the nodes below i
+pub one-at-most : (b : Bool) → cond b 1 0 ≤ 1
+one-at-most true = omega arith
+one-at-most false = omega arith
+
+pub below-le : (s : List ℕ) (i : ℕ) → renamedBelow s i ≤ i
+unfolding renamedBelow
+below-le s zero = omega arith
+below-le s (suc i) = omega (arith, below-le s i, one-at-most (renamed s i))
 
 -- sets that agree on the nodes below n have as many of them
 pub below-same : (s t : List ℕ) (n : ℕ) → ((i : ℕ) → i < n → renamed s i ≡ renamed t i)
@@ -69,3 +79,12 @@ module _ (s : List ℕ) (k : ℕ) where
       go false e ih =
           let other = eqb-false n k e in
           rw (ih (omega arith), renamed-set-other 1 n other) (omega arith)
+
+-- one node less
+pub below-unset : (s : List ℕ) (k n : ℕ) → k < n → k < length s → renamed s k ≡ true
+    → renamedBelow s n ≡ renamedBelow (set s k 0) n + 1
+below-unset s k n h l r =
+    let again : set (set s k 0) k 1 ≡ s =
+    set-set s k 0 1 ∙ ap (set s k) (sym (eqb-true (getD s k 0) 1 r)) ∙ set-getD s k 0 in
+    sym (ap (λ (t : List ℕ). renamedBelow t n) again)
+    ∙ below-set (set s k 0) k n h (omega (arith, length-set s k 0)) (renamed-set-same s k 0 l)

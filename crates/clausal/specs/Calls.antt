@@ -1,4 +1,4 @@
--- R6, R7.9, R8, R10.10 to R10.19, R12: what measuring, choosing and converting answer, and the lent outputs afterwards.
+-- R6, R7.9, R8, R22, R10.10 to R10.19, R12: what measuring, choosing and converting answer, and the lent outputs afterwards.
 -- Assumes nothing: these are definitions.
 use mathlib.Core.List.{List, []}
 use Prim.Native.Nat.{ℕ}
@@ -10,7 +10,8 @@ use Rattle.marks.specs.Sets.{setChecked}
 use Rattle.formula.specs.Tables.{nodesOf, mostOptions}
 use Rattle.formula.specs.declared.node.Node.{Node}
 use Rattle.clausal.specs.Clauses.{Renaming, renaming, variablesOf, clausesBytes}
-use Rattle.clausal.specs.Totals.{totals, Size, sizeOf, clauseCeiling, literalCeiling, Choice, totalUnder, choose}
+use Rattle.clausal.specs.Totals.{totals, Size, sizeOf, clauseCeiling, literalCeiling, totalUnder}
+use Rattle.clausal.specs.Choosing.{Choice, choose}
 use mathlib.Core.Bool.{cond, _||_}
 use lib.Dec.{eqb, ltb}
 use lib.ListN.{length}

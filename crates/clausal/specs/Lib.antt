@@ -3,6 +3,7 @@ pub mod Clauses
 pub mod Output
 pub mod Places
 pub mod Totals
+pub mod Choosing
 pub mod Calls
 pub mod Meanings
 pub mod Inner

@@ -11,7 +11,7 @@ use Rattle.answer.specs.Answers.{toldOf, refuses, mostShown}
 use Rattle.answer.specs.declared.Answer.{Answer}
 use Rattle.formula.specs.Checks.{checked}
 use Rattle.formula.specs.Tables.{nodesOf}
-use Rattle.clausal.specs.Totals.{choose}
+use Rattle.clausal.specs.Choosing.{choose}
 use Rattle.clausal.specs.Clauses.{clausesBytes, renaming, variablesOf}
 use Rattle.clausal.specs.Output.{outputOf}
 use Rattle.clausebytes.specs.Words.{clausesOf}

@@ -4,12 +4,12 @@ use crate::random::Random;
 use crate::table::Node;
 
 /// A table that grows. Each step gives the number of the node whose clauses it describes.
-struct Growing {
-    nodes: Vec<Node>,
+pub struct Growing {
+    pub nodes: Vec<Node>,
 }
 
 impl Growing {
-    fn node(&mut self, kind: u8, a: usize, b: usize) -> usize {
+    pub fn node(&mut self, kind: u8, a: usize, b: usize) -> usize {
         self.nodes.push(Node {
             kind,
             a: a as u16,
@@ -18,12 +18,12 @@ impl Growing {
         self.nodes.len() - 1
     }
 
-    fn not(&mut self, a: usize) -> usize {
+    pub fn not(&mut self, a: usize) -> usize {
         self.node(3, a, 0)
     }
 
     /// The clauses of a followed by those of b, by any of three operators.
-    fn followed(&mut self, random: &mut Random, a: usize, b: usize) -> usize {
+    pub fn followed(&mut self, random: &mut Random, a: usize, b: usize) -> usize {
         match random.below(6) {
             0 => {
                 let (a, b) = (self.not(a), self.not(b));
@@ -40,7 +40,7 @@ impl Growing {
     }
 
     /// The join of the clauses of a and b, by any of three operators.
-    fn joined(&mut self, random: &mut Random, a: usize, b: usize) -> usize {
+    pub fn joined(&mut self, random: &mut Random, a: usize, b: usize) -> usize {
         match random.below(6) {
             0 => {
                 let (a, b) = (self.not(a), self.not(b));

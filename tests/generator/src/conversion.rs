@@ -16,10 +16,14 @@ pub fn formula_fields(random: &mut Random, formula: &Formula) -> String {
     format!("{} {}", formula.options, input(random, &formula.table))
 }
 
+/// Of a larger table a drawn set mostly leaves too many clauses.
+const LARGE: usize = 80;
+
 /// A set for a formula: mostly drawn, sometimes the one that would be chosen.
 pub fn some_set(random: &mut Random, formula: &Formula) -> Vec<u8> {
-    if random.percent(20) {
-        let allowance = random.pick(&[1, 2, 1_024]);
+    let chosen = if formula.nodes.len() > LARGE { 70 } else { 20 };
+    if random.percent(chosen) {
+        let allowance = random.pick(&[1, 2, 1_024, 1_024]);
         if let Ok(nodes) = table::check(&formula.table, formula.options) {
             let chosen = fast_choose(&nodes, allowance).set;
             return chosen.into_iter().map(u8::from).collect();

@@ -2,6 +2,7 @@
 
 use crate::ceiling;
 use crate::damage::damage;
+use crate::parts::of_parts;
 use crate::random::Random;
 use crate::table::{bytes, constants, node_count, reached, right, Node, MOST_NODES};
 
@@ -68,7 +69,8 @@ pub fn small_formula(random: &mut Random) -> Formula {
             from_nodes(reached(random, options, leaves), options)
         }
         700..=849 => from_nodes(constants(random, options, small), options),
-        _ => from_nodes(ceiling::near(random), options),
+        850..=969 => from_nodes(ceiling::near(random), options),
+        _ => many_parts(random),
     };
     match random.below(100) {
         0..=7 => damaged(random, formula),
@@ -92,6 +94,12 @@ pub fn many_reached(random: &mut Random) -> Formula {
     let options = random.between(1, 60) as u32;
     let leaves = random.between(20, 250);
     from_nodes(reached(random, options, leaves), options)
+}
+
+/// A right formula of many parts, of which one pass of choosing mostly leaves too many clauses.
+pub fn many_parts(random: &mut Random) -> Formula {
+    let (nodes, options) = of_parts(random);
+    from_nodes(nodes, options)
 }
 
 /// A formula in which one record or several are damaged.

@@ -11,6 +11,7 @@ mod formula;
 mod name_list;
 mod node_file;
 mod origin;
+mod parts;
 mod random;
 mod request;
 mod sat_text;

@@ -9,7 +9,7 @@ use crate::node_file::node_file;
 use crate::origin;
 use crate::random::Random;
 use crate::sat_text;
-use crate::set::set;
+use crate::set::{may_be_renamed, set};
 use crate::table::MOST_NODES;
 use reference::dimacs_writer;
 
@@ -80,7 +80,26 @@ fn measure(random: &mut Random) -> String {
 fn choose(random: &mut Random) -> String {
     let formula = small_formula(random);
     let few = random.between(2, 6) as u32;
-    let allowance = random.pick(&[0, 1, 1, few, few, 1_023, 1_024, 1_024, 1_025, u32::MAX]);
+    // With all nodes allowed that may be renamed there may be a second pass, and with one less there is none.
+    let all = may_be_renamed(&formula.nodes);
+    let all = all.iter().filter(|&&may| may).count() as u32;
+    let one_less = all.saturating_sub(1);
+    let allowance = random.pick(&[
+        0,
+        1,
+        1,
+        few,
+        few,
+        one_less,
+        one_less,
+        all,
+        all,
+        1_023,
+        1_024,
+        1_024,
+        1_025,
+        u32::MAX,
+    ]);
     let count = formula.nodes.len();
     let length = match random.below(20) {
         0 => 0,
@@ -190,7 +209,7 @@ mod tests {
 
     fn requests(seed: u64, operation: &str) -> Vec<String> {
         let (mut random, mut chain) = (Random::new(seed), Chain::default());
-        (0..5_000)
+        (0..6_000)
             .map(|turn| request(&mut random, &mut chain, turn, operation).unwrap())
             .collect()
     }

@@ -28,7 +28,7 @@ pub fn set(random: &mut Random, nodes: &[Node], wrong_percent: usize) -> Vec<u8>
 }
 
 /// For each node, whether its kind is 3 to 7, the root reaches it and it isn't the root.
-fn may_be_renamed(nodes: &[Node]) -> Vec<bool> {
+pub fn may_be_renamed(nodes: &[Node]) -> Vec<bool> {
     let root = nodes.len() - 1;
     let mut reached = vec![false; nodes.len()];
     reached[root] = true;

@@ -1,9 +1,10 @@
 //! Choosing a set quickly. It shares neither the totals nor the table of clause lists with the plain rule.
 //!
 //! Nodes are tried from the highest down. A child's number is below its parent's, so renaming a node
-//! changes no total of the nodes up to it, and of the nodes up to it none but itself is renamed yet.
-//! So a trial fills only the totals above the node, and adds only their definitions. Leaves and nodes that
-//! the root doesn't reach are filled once.
+//! changes no total of the nodes up to it, and of the nodes below it none is renamed yet. In the second
+//! pass all of them still are, if they may be. So a trial fills only the totals above the node, and adds
+//! their definitions to what the nodes up to it have. Leaves and nodes that the root doesn't reach are
+//! filled once.
 
 use crate::choose::Choice;
 use crate::polarity::{marks, Mark};
@@ -124,40 +125,111 @@ fn fill(inner: &[Inner], seen: &mut Seen) -> u32 {
     definitions
 }
 
-/// The set for an allowance.
-pub fn fast_choose(nodes: &[Node], allowance: u32) -> Choice {
-    let root = nodes.len() - 1;
-    let mut seen: Seen = [HELPER; MOST_NODES];
-    let mut inner = vec![];
-    for ((number, &node), mark) in nodes.iter().enumerate().zip(marks(nodes)) {
-        seen[number] = leaf(node);
-        inner.extend(Inner::new(number, node, mark));
+/// A table on which both passes go.
+struct Passes {
+    inner: Vec<Inner>,
+    seen: Seen,
+    root: usize,
+}
+
+impl Passes {
+    fn new(nodes: &[Node]) -> Passes {
+        let mut seen: Seen = [HELPER; MOST_NODES];
+        let mut inner = vec![];
+        for ((number, &node), mark) in nodes.iter().enumerate().zip(marks(nodes)) {
+            seen[number] = leaf(node);
+            inner.extend(Inner::new(number, node, mark));
+        }
+        Passes {
+            inner,
+            seen,
+            root: nodes.len() - 1,
+        }
     }
-    fill(&inner, &mut seen);
-    let mut choice = Choice {
-        set: vec![false; nodes.len()],
-        picks: 0,
-        total: seen[root].p,
-    };
-    // The last of them is the root, where any is.
-    for tried in (0..inner.len().saturating_sub(1)).rev() {
-        if choice.picks == allowance {
-            break;
+
+    /// How many nodes may be renamed. The last one that has children is the root, where any is.
+    fn may(&self) -> usize {
+        self.inner.len().saturating_sub(1)
+    }
+
+    /// The total where the nodes up to `tried` have so many clauses in their definitions.
+    fn total(&mut self, tried: usize, definitions: u32) -> u32 {
+        let above = fill(&self.inner[tried + 1..], &mut self.seen);
+        add(add(above, definitions), self.seen[self.root].p)
+    }
+
+    /// No node is renamed at first, and one is put in where the total is lower with it.
+    fn put_in(&mut self, allowance: u32) -> Choice {
+        fill(&self.inner, &mut self.seen);
+        let mut choice = Choice {
+            set: vec![false; self.root + 1],
+            picks: 0,
+            total: self.seen[self.root].p,
+        };
+        for tried in (0..self.may()).rev() {
+            if choice.picks == allowance {
+                break;
+            }
+            let number = usize::from(self.inner[tried].number);
+            let own = self.seen[number];
+            self.seen[number] = HELPER;
+            let total = self.total(tried, self.inner[tried].definition(own));
+            if total < choice.total {
+                self.inner[tried].is_renamed = true;
+                choice.set[number] = true;
+                choice.total = total;
+                choice.picks += 1;
+            } else {
+                // The totals above are filled again before they are next read.
+                self.seen[number] = own;
+            }
         }
-        let number = usize::from(inner[tried].number);
-        let own = seen[number];
-        seen[number] = HELPER;
-        let definitions = fill(&inner[tried + 1..], &mut seen);
-        let total = add(add(definitions, inner[tried].definition(own)), seen[root].p);
-        if total < choice.total {
-            inner[tried].is_renamed = true;
-            choice.set[number] = true;
-            choice.total = total;
-            choice.picks += 1;
-        } else {
-            // The totals above are filled again before they are next read.
-            seen[number] = own;
+        choice
+    }
+
+    /// All nodes that may be are renamed at first, and one is taken out where the total is not higher without it. Below
+    /// a tried node all are still renamed, so its own totals and the definitions below it are those of the start.
+    fn take_out(&mut self) -> Choice {
+        let may = self.may();
+        let mut set = vec![false; self.root + 1];
+        for node in &mut self.inner[..may] {
+            node.is_renamed = true;
+            set[usize::from(node.number)] = true;
+            self.seen[usize::from(node.number)] = HELPER;
         }
+        let own: Vec<Row> = self.inner.iter().map(|node| node.row(&self.seen)).collect();
+        let mut below = vec![0];
+        for (node, &row) in self.inner[..may].iter().zip(&own) {
+            below.push(below[below.len() - 1] + node.definition(row));
+        }
+        let mut choice = Choice {
+            set,
+            picks: may as u32,
+            total: below[may] + own[may].p,
+        };
+        for tried in (0..may).rev() {
+            let number = usize::from(self.inner[tried].number);
+            self.seen[number] = own[tried];
+            let total = self.total(tried, below[tried]);
+            if total <= choice.total {
+                self.inner[tried].is_renamed = false;
+                choice.set[number] = false;
+                choice.total = total;
+                choice.picks -= 1;
+            } else {
+                self.seen[number] = HELPER;
+            }
+        }
+        choice
+    }
+}
+
+/// The set for an allowance. The second pass is made where the first ends at the ceiling and all nodes are allowed.
+pub fn fast_choose(nodes: &[Node], allowance: u32) -> Choice {
+    let mut passes = Passes::new(nodes);
+    let choice = passes.put_in(allowance);
+    if choice.total == CEILING && allowance as usize >= passes.may() {
+        return passes.take_out();
     }
     choice
 }

@@ -1,9 +1,7 @@
-//! Totals, both ways of converting, origins and both ways of choosing, against lists made as the rules write them.
+//! Totals, both ways of converting and origins, against lists made as the rules write them.
 
 use reference::answer::Refusal;
-use reference::choose::choose;
 use reference::convert::{clause_bytes, each_clause, measure};
-use reference::fast_choose::fast_choose;
 use reference::lists::Lists;
 use reference::origin;
 use reference::per_clause;
@@ -329,65 +327,6 @@ fn both_ways_of_converting_agree_at_the_ceilings() {
     assert_eq!(converted(&twice(Symbol(1), Equivalent, 1_023)), 5);
 }
 
-#[test]
-fn both_ways_of_choosing_agree() {
-    let mut random = Random(362_436_069);
-    let mut picked = 0;
-    for turn in 0..4_000 {
-        let nodes = table(&mut random, 1 + turn % 60);
-        for allowance in [0, 1, 2, 5, u32::MAX] {
-            let choice = choose(&nodes, allowance);
-            assert_eq!(
-                fast_choose(&nodes, allowance),
-                choice,
-                "{allowance} {nodes:?}"
-            );
-            assert!(choice.picks <= allowance);
-            picked += choice.picks;
-        }
-    }
-    assert!(picked > 2_000, "{picked}");
-}
-
-#[test]
-fn both_ways_of_choosing_agree_on_1024_nodes() {
-    let mut random = Random(521_288_629);
-    for _ in 0..6 {
-        let nodes = table(&mut random, 1_024);
-        assert_eq!(fast_choose(&nodes, 1_024), choose(&nodes, 1_024));
-    }
-}
-
-/// A larger allowance renames at least the smaller one's nodes, and its total is not higher.
-#[test]
-fn a_larger_allowance_only_adds() {
-    let mut random = Random(2_463_534_242);
-    for _ in 0..300 {
-        let nodes = table(&mut random, 30);
-        let choices: Vec<_> = (0..8).map(|allowance| choose(&nodes, allowance)).collect();
-        for pair in choices.windows(2) {
-            assert!(pair[1].total <= pair[0].total);
-            assert!(pair[0]
-                .set
-                .iter()
-                .zip(&pair[1].set)
-                .all(|(less, more)| !less || *more));
-        }
-    }
-}
-
-#[test]
-fn a_chosen_total_is_that_of_the_output() {
-    let mut random = Random(675_248);
-    for _ in 0..500 {
-        let nodes = table(&mut random, 25);
-        let choice = choose(&nodes, 1_024);
-        assert_eq!(choice.total, measure(&nodes, &choice.set).shown_clauses());
-        let picks = choice.set.iter().filter(|&&renamed| renamed).count();
-        assert_eq!(choice.picks as usize, picks);
-    }
-}
-
 fn twice(first: Node, node: fn(usize, usize) -> Node, times: usize) -> Vec<Node> {
     let mut nodes = vec![first];
     nodes.extend((0..times).map(|below| node(below, below)));
@@ -481,19 +420,4 @@ fn a_node_of_both_polarities_gives_two_halves() {
             vec![-1, -2, 3]
         ]
     );
-}
-
-#[test]
-fn totals_that_tie_are_not_renamed_and_the_ceiling_hides_a_change() {
-    let nodes = [Symbol(1), Symbol(2), And(0, 1), And(1, 0), Or(2, 3)];
-    assert_eq!(choose(&nodes, 9).picks, 0);
-    // Forty conjunctions of two symbols in one disjunction: one renaming leaves the ceiling as it is.
-    let mut many: Vec<Node> = vec![Symbol(1), Symbol(2), And(0, 1)];
-    for _ in 0..39 {
-        many.push(And(0, 1));
-        let last = many.len() - 1;
-        many.push(Or(last - 1, last));
-    }
-    let choice = choose(&many, u32::MAX);
-    assert_eq!((choice.picks, choice.total), (0, 65_535));
 }

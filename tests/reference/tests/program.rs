@@ -149,6 +149,12 @@ fn both_buffers_have_65536_bytes() {
 #[test]
 fn the_ceilings_are_refused_before_the_room() {
     refused(&twice(5, 20), 6, 0);
-    // With one node renamed there are 2 to the 15 twice, or more: at the ceiling too. So none is picked.
-    refused(&twice(4, 30), 5, 0);
+}
+
+#[test]
+fn at_the_ceiling_all_nodes_are_renamed_and_some_taken_out_again() {
+    // With one node renamed there are 2 to the 15 twice, or more. The program renames 14 nodes, and there are 60 clauses.
+    assert!(shown(&twice(4, 30)).starts_with("p cnf 15 60\n15 0\n15 0\n15 0\n15 0\n-2 1 0\n"));
+    // With 29 times there are 2 to the 14 and 2 to the 15 clauses with node 15 renamed, and they do not fit.
+    refused(&twice(4, 29), 7, 0);
 }

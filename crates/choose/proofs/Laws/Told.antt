@@ -9,7 +9,7 @@ use lib.ListN.{length}
 use Rattle.answer.specs.Answers.{Wrote}
 use Rattle.answer.specs.declared.Answer.the-variants.{Accepted, Set}
 use Rattle.formula.specs.declared.node.Node.{Node}
-use Rattle.clausal.specs.Totals.{Choice, choose}
+use Rattle.clausal.specs.Choosing.{Choice, choose}
 use Rattle.clausal.specs.Clauses.{renaming}
 use Rattle.clausal.specs.Calls.{told, chosenUnder}
 use Rattle.choose.proofs.Allowances.{total-options, choose-options}

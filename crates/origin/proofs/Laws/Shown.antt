@@ -28,7 +28,7 @@ use Rattle.clausal.specs.Clauses.{Renaming, renaming, renamedBelow, variablesOf
 use Rattle.clausal.specs.Output.{outputOf}
 use Rattle.clausal.specs.Totals.{Size, sizeOf}
 use Rattle.parts.specs.Inner.Helpers.{helpersOf, Unnamed}
-use Rattle.parts.proofs.Laws.Helpers.{below-le}
+use Rattle.clausal.proofs.Renamed.{below-le}
 use Rattle.convert.specs.Inner.Fitted.{Measured}
 use Rattle.convert.proofs.Laws.Checked.{convertible, few-options}
 use Rattle.convert.proofs.Laws.Fitted.{ceilings-shown, sizes-below}

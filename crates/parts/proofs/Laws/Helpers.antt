@@ -14,16 +14,8 @@ use Rattle.laws.proofs.Upward.{pad-upTo}
 use Rattle.formula.specs.Tables.{mostNodes}
 use Rattle.marks.specs.Sets.{renamed}
 use Rattle.clausal.specs.Clauses.{Renaming, renaming, renamedBelow, helperOf, nameOf, variablesOf}
+use Rattle.clausal.proofs.Renamed.{one-at-most, below-le}
 use Rattle.parts.specs.Inner.Helpers.{helpersOf, Unnamed}
-
-one-at-most : (b : Bool) → cond b 1 0 ≤ 1
-one-at-most true = omega arith
-one-at-most false = omega arith
-
-pub below-le : (s : List ℕ) (i : ℕ) → renamedBelow s i ≤ i
-unfolding renamedBelow
-below-le s zero = omega arith
-below-le s (suc i) = omega (arith, below-le s i, one-at-most (renamed s i))
 
 module _ (taken : ℕ) (s zeros : List ℕ) where
   abbrev u : Renaming

@@ -15,7 +15,7 @@ use Rattle.formula.specs.Checks.{checked}
 use Rattle.formula.specs.Tables.{nodeCount, nodesOf}
 use Rattle.formula.specs.declared.node.Node.{Node}
 use Rattle.formula.proofs.Laws.Tables.{length-nodesOf}
-use Rattle.clausal.specs.Totals.{choose}
+use Rattle.clausal.specs.Choosing.{choose}
 use Rattle.clausal.specs.Clauses.{renaming}
 use Rattle.clausal.specs.Calls.{told, chosenUnder, chosenBy}
 use Rattle.program.specs.Printed.{allowance, unlessRefused, setPrinted, tablePrinted}

@@ -9,7 +9,7 @@ use lib.ListN.{length, take, replicate}
 use Rattle.answer.specs.Answers.{Wrote}
 use Rattle.answer.proofs.Laws.Order.{tested}
 use Rattle.formula.specs.Tables.{mostNodes, nodeCount, nodesOf}
-use Rattle.clausal.specs.Totals.{choose}
+use Rattle.clausal.specs.Choosing.{choose}
 use Rattle.clausal.specs.Clauses.{renaming}
 use Rattle.clausal.specs.Calls.{chosenBy}
 use Rattle.program.specs.Printed.{allowance, setPrinted}

@@ -1,74 +1,144 @@
--- `choose::pass::attempt` meets its contract: the total falls, or the node is taken out again. Assumes nothing.
-use mathlib.Core.Path.{ap, _∙_}
+-- `choose::pass::attempt` meets its contract: the trial is kept, or the byte is put back. Assumes nothing.
+use mathlib.Core.Path.{_≡_, sym, ap, _∙_}
+use mathlib.Core.Bool.{Bool, true, false, cond}
+use Prim.Native.Nat.{ℕ, _+_, _-_, _<_, _≤_}
 use native.Mathlib.Omega.{arith}
 use lib.ListN.{length, length-set}
 use borrow.Author.Needs.{needs}
+use borrow.Author.Tests.{not-true, not-false}
 use Rattle.formula.specs.Tables.{nodesOf}
 use Rattle.formula.proofs.Laws.Tables.{length-nodesOf}
-use Rattle.choose.proofs.Laws.Visits.{tried-low, accepted, rejected}
+use Rattle.clausal.proofs.Renamed.{below-le}
+use Rattle.choose.proofs.Laws.Visits.{tried-low, accepted, rejected, some}
 use Rattle.choose.proofs.pass.attempt.Statement.{statement}
 use Rattle.choose.proofs.pass.attempt.Tie as tie
+
+-- the lowest node whose definition counts is one of the table
+within : (drops : Bool) (i from n : ℕ) → from ≡ cond drops 0 i → i < n → from ≤ n
+within true i from n e h = omega arith
+within false i from n e h = omega arith
+
+-- which way the picks go
+fewer : (drops : Bool) (picks : ℕ) → drops ≡ true → picks - 1 ≡ cond drops (picks - 1) (picks + 1)
+fewer drops picks e = rw e
+
+more : (drops : Bool) (picks : ℕ) → drops ≡ false → picks + 1 ≡ cond drops (picks - 1) (picks + 1)
+more drops picks e = rw e
 
 asked : tie.Need-trial-requires
 asked c κs =
     let toward-start = c .before .before .before .before in
-    let start = toward-start .before .before in
-    let t = start .args .table .now in
-    let stands = start .pre .stands in
-    record {
-      marked = start .pre .marked;
-      below = start .pre .below;
-      size = stands .size ∙ length-nodesOf t;
-      inside = start .pre .inside;
-      low = tried-low 0 (nodesOf t) (start .args .i) 0 (start .args .set .now) _ _ _ stands;
-      within = omega (arith, start .pre .inside);
-      ready = stands .ready;
-    }
-
-lower : tie.Need-returns
-lower c =
-    let toward-trial = c .before .before .before .before in
-    let trial = toward-trial .before in
-    let toward-start = trial .before .before .before .before in
-    let start = toward-start .before .before .before in
+    let start = toward-start .before .before .before .before in
     let a = start .args in
-    accepted 0 (nodesOf (a .table .now)) (a .i) (a .picked .picks) (a .set .now) _ _ _ (start .pre .stands) _ _ _ _ (trial .trial .ensures)
-    (omega (arith, start .pre .inside, length-nodesOf (a .table .now))) (c .if1 .taken)
+    let pre = start .pre .visitable in
+    let from = c .before .before .before .lowest .ensures in
+    record {
+      marked = pre .marked;
+      below = pre .below;
+      size = pre .stands .size ∙ length-nodesOf (a .table .now);
+      inside = pre .inside;
+      low = tried-low (a .drops) (nodesOf (a .table .now)) (a .i) _ _ _ _ _ (pre .stands) _ _ (c .before .before .byte-of .ensures) from;
+      within = within (a .drops) (a .i) _ _ from (pre .inside);
+      ready = pre .stands .ready;
+    }
 
 still-inside : tie.Need-slice-write-set
 still-inside c =
-    let toward-trial = c .before .before .before .before in
-    let trial = toward-trial .before in
-    let toward-start = trial .before .before .before .before in
-    let start = toward-start .before .before .before in
+    let trial = c .before .before .before .before .before in
+    let toward-start = trial .before .before .before .before .before in
+    let start = toward-start .before .before .before .before in
     let a = start .args in
+    let pre = start .pre .visitable in
     omega (
       arith,
       ap length (trial .trial .ensures .in-set),
-      length-set (a .set .now) (a .i) 1,
-      start .pre .stands .size,
-      start .pre .inside,
+      length-set (a .set .now) (a .i) (trial .before .before .before .byte-of .result),
+      pre .stands .size,
+      pre .inside,
       length-nodesOf (a .table .now),
     )
 
-not-lower : tie.Need-returns-2
-not-lower c =
-    let toward-trial = c .before .before .before .before in
-    let trial = toward-trial .before in
-    let toward-start = trial .before .before .before .before in
-    let start = toward-start .before .before .before in
+put-back : tie.Need-returns
+put-back c =
+    let trial = c .before .before .before .before .before in
+    let toward-start = trial .before .before .before .before .before in
+    let start = toward-start .before .before .before .before in
     let a = start .args in
-    rejected 0 (nodesOf (a .table .now)) (a .i) (a .picked .picks) (a .set .now) _ _ _ (start .pre .stands) _ _ _ _ (trial .trial .ensures)
-    (omega (arith, start .pre .inside, length-nodesOf (a .table .now))) (start .pre .below) (c .if1 .left)
+    let pre = start .pre .visitable in
+    let kept = c .before .before .is-kept in
+    rejected (a .drops) (nodesOf (a .table .now)) (a .i) (a .picked .picks) (a .set .now) _ _ _ (pre .stands)
+    (omega (arith, pre .inside, length-nodesOf (a .table .now))) (start .pre .other) _ _ _ _ _ (trial .trial .ensures)
+    (trial .before .before .before .byte-of .ensures) (pre .below) _ (c .byte-of2 .ensures)
+    (sym (not-true (kept .result) (c .before .if1 .taken)) ∙ kept .ensures)
+
+some-in : tie.Need-sub-t23
+some-in c =
+    let toward-trial = c .before .before .before .before .before in
+    let toward-start = toward-trial .before .before .before .before .before in
+    let start = toward-start .before .before .before .before in
+    let a = start .args in
+    let pre = start .pre .visitable in
+    some (a .drops) (nodesOf (a .table .now)) (a .i) (a .picked .picks) (a .set .now) _ _ _ (pre .stands)
+    (omega (arith, pre .inside, length-nodesOf (a .table .now))) (start .pre .other) (c .if2 .taken)
+
+goes-out : tie.Need-returns-2
+goes-out c =
+    let trial = c .before .before .before .before .before in
+    let toward-start = trial .before .before .before .before .before in
+    let start = toward-start .before .before .before .before in
+    let a = start .args in
+    let pre = start .pre .visitable in
+    let kept = c .before .before .is-kept in
+    accepted (a .drops) (nodesOf (a .table .now)) (a .i) (a .picked .picks) (a .set .now) _ _ _ (pre .stands)
+    (omega (arith, pre .inside, length-nodesOf (a .table .now))) (start .pre .other) _ _ _ _ _ (trial .trial .ensures)
+    (trial .before .before .before .byte-of .ensures) _ (fewer (a .drops) (a .picked .picks) (c .if2 .taken))
+    (sym (not-false (kept .result) (c .before .if1 .left)) ∙ kept .ensures)
+
+fits : tie.Need-add-t24
+fits c =
+    let toward-trial = c .before .before .before .before .before in
+    let toward-start = toward-trial .before .before .before .before .before in
+    let start = toward-start .before .before .before .before in
+    let a = start .args in
+    let pre = start .pre .visitable in
+    record {
+      fits = omega (
+        arith,
+        pre .stands .counted,
+        below-le (a .set .now) (length (nodesOf (a .table .now))),
+        length-nodesOf (a .table .now),
+        pre .marked .size .most,
+      );
+    }
+
+goes-in : tie.Need-returns-3
+goes-in c =
+    let trial = c .before .before .before .before .before in
+    let toward-start = trial .before .before .before .before .before in
+    let start = toward-start .before .before .before .before in
+    let a = start .args in
+    let pre = start .pre .visitable in
+    let kept = c .before .before .is-kept in
+    accepted (a .drops) (nodesOf (a .table .now)) (a .i) (a .picked .picks) (a .set .now) _ _ _ (pre .stands)
+    (omega (arith, pre .inside, length-nodesOf (a .table .now))) (start .pre .other) _ _ _ _ _ (trial .trial .ensures)
+    (trial .before .before .before .byte-of .ensures) _ (more (a .drops) (a .picked .picks) (c .if2 .left))
+    (sym (not-false (kept .result) (c .before .if1 .left)) ∙ kept .ensures)
 
 pub attempt-spec : {M : Type 1} → statement M
 attempt-spec =
     tie.close
     (tie.spec
+    (λ c κs. search needs)
+    (λ c κs. search needs)
     asked
-    (λ c. search needs)
-    (λ c. search needs)
-    lower
+    (λ c κs. search needs)
+    (λ c κs. search needs)
     still-inside
     (λ c. search needs)
-    not-lower)
+    put-back
+    some-in
+    (λ c. search needs)
+    goes-out
+    fits
+    (λ c. search needs)
+    goes-in)

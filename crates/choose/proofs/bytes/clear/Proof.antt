@@ -1,4 +1,4 @@
--- `choose::pass::clear` meets its contract. The loop's invariant: the bytes passed are 0, the others as before.
+-- `choose::bytes::clear` meets its contract. The loop's invariant: the bytes passed are 0, the others as before.
 -- The measure is the number of bytes left. Assumes nothing.
 use mathlib.Core.Path.{_≡_, refl, sym, ap, _∙_}
 use mathlib.Core.List.{List, [], _++_, append-nil}
@@ -6,8 +6,8 @@ use Prim.Native.Nat.{ℕ, _≤_, _<_, _-_}
 use native.Mathlib.Omega.{arith}
 use lib.ListN.{length, replicate, drop, length-set, length-append, length-replicate, length-drop, drop-of-length-le}
 use borrow.Author.Fill.{fill-none, fill-more}
-use Rattle.choose.proofs.pass.clear.Statement.{statement}
-use Rattle.choose.proofs.pass.clear.Tie as tie
+use Rattle.choose.proofs.bytes.clear.Statement.{statement}
+use Rattle.choose.proofs.bytes.clear.Tie as tie
 
 abbrev Inv-loop : tie.InvT-loop
 Inv-loop set₀ i₀ set i = (i ≤ length set₀) × (length set ≡ length set₀) × (set ≡ replicate i 0 ++ drop i set₀)
