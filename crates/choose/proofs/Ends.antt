@@ -1,7 +1,5 @@
--- What the second pass ends with, node by node. A node that is kept was worth its definition when it was visited: with the nodes
--- above it as they are at the end and every node below it still in, the total would have risen without it. One that went out was
--- not. This settles the set. It does not say that no kept node could go at the end: `Cases` of `clausal` has one that could.
--- Assumes nothing.
+-- What the second pass ends with, node by node. Nothing is said of dropping a kept node at the end: `Cases` of `clausal` has one
+-- that could go. Assumes nothing.
 use mathlib.Core.Path.{_≡_, refl, sym, ap, _∙_, subst}
 use mathlib.Core.Bool.{Bool, true, false, cond}
 use mathlib.Core.List.{List, _++_}
@@ -17,21 +15,11 @@ use Rattle.marks.specs.Sets.{renamed, mayRename}
 use Rattle.clausal.specs.Clauses.{Renaming}
 use Rattle.clausal.specs.Totals.{totalUnder}
 use Rattle.clausal.specs.Choosing.{Choice, visitsFrom, revisit, allOf, everything, secondPass}
+use Rattle.choose.specs.Ends.{Visiting, Ends}
 use Rattle.choose.proofs.Laws.All.{all-size, all-byte}
 use Rattle.choose.proofs.Laws.Chosen.{Revisited, leaves, stays, revisited}
 
 module _ (u : Renaming) (ns : List Node) where
-  -- a set as node i was visited with: the nodes below i as at the beginning, the others as in the set s
-  pub record Visiting (s : List ℕ) (i : ℕ) (t : List ℕ) : Type 0 where
-    pub size : length t ≡ length ns
-    pub lower : (j : ℕ) → j < i → getD t j 0 ≡ getD (allOf ns) j 0
-    pub upper : (j : ℕ) → i ≤ j → getD t j 0 ≡ getD s j 0
-
-  -- what stands of node i at the end
-  pub record Ends (s : List ℕ) (i : ℕ) : Type 0 where
-    pub kept : (t : List ℕ) → Visiting s i t → renamed s i ≡ true → totalUnder u ns t < totalUnder u ns (set t i 0)
-    pub gone : (t : List ℕ) → Visiting s i t → renamed s i ≡ false → totalUnder u ns t ≤ totalUnder u ns (set t i 1)
-
   -- the nodes below k are not visited yet
   record Waiting (k : ℕ) (s : List ℕ) : Type 0 where
     size : length s ≡ length ns
@@ -57,7 +45,7 @@ module _ (u : Renaming) (ns : List Node) where
 
   -- the set after the visit of node i is the only one that was visited with
   module _ (i : ℕ) (inside : i < length ns) (may : mayRename ns i ≡ true) (s : List ℕ) where
-    only : (d : List ℕ) → Waiting i d → ((j : ℕ) → i ≤ j → getD s j 0 ≡ getD d j 0) → (t : List ℕ) → Visiting s i t → t ≡ d
+    only : (d : List ℕ) → Waiting i d → ((j : ℕ) → i ≤ j → getD s j 0 ≡ getD d j 0) → (t : List ℕ) → Visiting ns s i t → t ≡ d
     only d w above t v = ext-getD 0 t d (v .size ∙ sym (w .size)) (λ j h. at j (decLt j i))
       where
         at : (j : ℕ) → Dec (j < i) → getD t j 0 ≡ getD d j 0
@@ -65,7 +53,7 @@ module _ (u : Renaming) (ns : List Node) where
         at j (no l) = v .upper j (omega arith) ∙ above j (omega arith)
 
     ends-visit : (c d : Choice) → Waiting (suc i) (c .chosen) → Revisited u ns i c d
-        → ((j : ℕ) → i ≤ j → getD s j 0 ≡ getD (d .chosen) j 0) → Ends s i
+        → ((j : ℕ) → i ≤ j → getD s j 0 ≡ getD (d .chosen) j 0) → Ends u ns s i
     ends-visit c d w (stays h) above =
         let was : getD (c .chosen) i 0 ≡ 1 = w .lower i (omega arith) ∙ all-byte ns i inside ∙ rw may in
         let in-it : renamed s i ≡ true = ap (λ (b : ℕ). eqb b 1) (above i (omega arith) ∙ was) in
@@ -85,22 +73,22 @@ module _ (u : Renaming) (ns : List Node) where
         }
 
   ends-visits : (k : ℕ) (c : Choice) → k ≤ length ns → Waiting k (c .chosen) → (i : ℕ) → i < k → mayRename ns i ≡ true
-      → Ends (visitsFrom (revisit u ns) k c .chosen) i
+      → Ends u ns (visitsFrom (revisit u ns) k c .chosen) i
   unfolding visitsFrom
   ends-visits zero c h w i l may = absurd (omega arith)
   ends-visits (suc k) c h w i l may =
       let rest = waiting-next k c _ w (revisited u ns k c) in
       go (eqb i k) refl (λ g. ends-visits k (revisit u ns k c) (omega arith) rest i g may)
     where
-      go : (b : Bool) → eqb i k ≡ b → (i < k → Ends (visitsFrom (revisit u ns) k (revisit u ns k c) .chosen) i)
-          → Ends (visitsFrom (revisit u ns) k (revisit u ns k c) .chosen) i
+      go : (b : Bool) → eqb i k ≡ b → (i < k → Ends u ns (visitsFrom (revisit u ns) k (revisit u ns k c) .chosen) i)
+          → Ends u ns (visitsFrom (revisit u ns) k (revisit u ns k c) .chosen) i
       go true e ih =
           let q : i ≡ k = eqb-true i k e in
-          subst (Ends (visitsFrom (revisit u ns) k (revisit u ns k c) .chosen)) (sym q)
+          subst (Ends u ns (visitsFrom (revisit u ns) k (revisit u ns k c) .chosen)) (sym q)
           (ends-visit k h (ap (mayRename ns) (sym q) ∙ may) _ c _ w (revisited u ns k c) (λ j g. visits-other k (revisit u ns k c) j g))
       go false e ih = ih (omega (arith, eqb-false i k e))
 
   -- R22.9: of every node that may be renamed
-  pub ends : (i : ℕ) → i < length ns → mayRename ns i ≡ true → Ends (secondPass u ns .chosen) i
+  pub ends : (i : ℕ) → i < length ns → mayRename ns i ≡ true → Ends u ns (secondPass u ns .chosen) i
   ends i h may =
       ends-visits (length ns) (everything ns) (omega arith) (record { size = all-size ns; lower = λ j l. refl }) i h may

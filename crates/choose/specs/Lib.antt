@@ -1,2 +1,3 @@
--- What the inner contracts cite.
+-- What the inner contracts cite, and what the second pass ends with.
 pub mod Inner
+pub mod Ends

@@ -1,14 +1,17 @@
 -- `choose::pass::attempt` meets its contract: the trial is kept, or the byte is put back. Assumes nothing.
 use mathlib.Core.Path.{_≡_, sym, ap, _∙_}
 use mathlib.Core.Bool.{Bool, true, false, cond}
+use mathlib.Core.List.{List}
 use Prim.Native.Nat.{ℕ, _+_, _-_, _<_, _≤_}
 use native.Mathlib.Omega.{arith}
 use lib.ListN.{length, length-set}
 use borrow.Author.Needs.{needs}
 use borrow.Author.Tests.{not-true, not-false}
 use Rattle.formula.specs.Tables.{nodesOf}
+use Rattle.formula.specs.declared.node.Node.{Node}
 use Rattle.formula.proofs.Laws.Tables.{length-nodesOf}
 use Rattle.clausal.proofs.Renamed.{below-le}
+use Rattle.totals.specs.Inner.Sums.{Tried}
 use Rattle.choose.proofs.Laws.Visits.{tried-low, accepted, rejected, some}
 use Rattle.choose.proofs.pass.attempt.Statement.{statement}
 use Rattle.choose.proofs.pass.attempt.Tie as tie
@@ -17,6 +20,11 @@ use Rattle.choose.proofs.pass.attempt.Tie as tie
 within : (drops : Bool) (i from n : ℕ) → from ≡ cond drops 0 i → i < n → from ≤ n
 within true i from n e h = omega arith
 within false i from n e h = omega arith
+
+-- a trial leaves a set of the same length
+same-size : (ns : List Node) (i byte n : ℕ) (before after : List ℕ) (cs ls : List (List ℕ)) → Tried ns i byte before after n cs ls
+    → length after ≡ length before
+same-size ns i byte n before after cs ls t = ap length (t .in-set) ∙ length-set before i byte
 
 -- which way the picks go
 fewer : (drops : Bool) (picks : ℕ) → drops ≡ true → picks - 1 ≡ cond drops (picks - 1) (picks + 1)
@@ -51,8 +59,7 @@ still-inside c =
     let pre = start .pre .visitable in
     omega (
       arith,
-      ap length (trial .trial .ensures .in-set),
-      length-set (a .set .now) (a .i) (trial .before .before .before .byte-of .result),
+      same-size _ _ _ _ _ _ _ _ (trial .trial .ensures),
       pre .stands .size,
       pre .inside,
       length-nodesOf (a .table .now),
