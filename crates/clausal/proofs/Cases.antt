@@ -1,23 +1,18 @@
 -- R8, R22: both passes and the choice on small tables, by computing. Each table is one on which a rule that is nearly right differs.
 -- Assumes nothing.
-use mathlib.Core.Bool.{Bool, _&&_}
+use mathlib.Core.Bool.{_&&_}
 use mathlib.Core.List.{List, [], _∷_, _++_}
 use Prim.Native.Nat.{ℕ}
 use lib.Dec.{T, eqb}
-use lib.ListN.{length}
 use Rattle.laws.specs.Lists.{firstFrom, upTo}
 use Rattle.marks.specs.Marks.{downFrom}
 use Rattle.formula.specs.Checks.{checked}
 use Rattle.formula.specs.Tables.{nodesOf}
-use Rattle.formula.specs.declared.node.Node.{Node}
 use Rattle.clausal.specs.Clauses.{renaming, renamedBelow}
 use Rattle.clausal.specs.Output.{definitions}
 use Rattle.clausal.specs.Totals.{totalUnder}
-use Rattle.clausal.specs.Choosing.{Choice, visitsFrom, nothing, firstPass, everything, secondPass, choose}
-use Rattle.clausal.proofs.Notation.{accepted, same, true-node, symbol, and-of, or-of, equivalent-of}
-
-abbrev firstOf : ℕ → List ℕ → Choice
-firstOf allowance t = firstPass allowance (renaming 0 []) (nodesOf t)
+use Rattle.clausal.specs.Choosing.{Choice, visitsFrom, secondPass, choose}
+use Rattle.clausal.proofs.Notation.{accepted, same, true-node, symbol, and-of, or-of}
 
 abbrev secondOf : List ℕ → Choice
 secondOf t = secondPass (renaming 0 []) (nodesOf t)
@@ -50,6 +45,30 @@ one-too-few = tt
 pub all-allowed : Is twice (chosenOf 10 twice) 2 (0 ∷ 0 ∷ 1 ∷ 0 ∷ 0 ∷ 0 ∷ 0 ∷ 1 ∷ 0 ∷ 0 ∷ 0 ∷ 0 ∷ 0 ∷ []) 6
 unfolding upTo firstFrom downFrom renamedBelow definitions visitsFrom
 all-allowed = tt
+
+-- R22.3: s1, 0 and 0, 0 and 1, 2 and 2. The highest node goes first, and both go. With the lowest first node 2 would stay
+abbrev ordered : List ℕ
+ordered = symbol 1 ++ and-of 0 0 ++ and-of 0 1 ++ and-of 2 2
+
+pub highest-first : Is ordered (secondOf ordered) 0 (0 ∷ 0 ∷ 0 ∷ 0 ∷ []) 6
+unfolding upTo firstFrom downFrom renamedBelow definitions visitsFrom
+highest-first = tt
+
+-- R22.4: s1, 0 and 0, 1 and 1. There are four clauses with node 1 and four without it, so it goes
+abbrev even : List ℕ
+even = symbol 1 ++ and-of 0 0 ++ and-of 1 1
+
+pub tie-goes : Is even (secondOf even) 0 (0 ∷ 0 ∷ 0 ∷ []) 4
+unfolding upTo firstFrom downFrom renamedBelow definitions visitsFrom
+tie-goes = tt
+
+-- R22.5: s1, 0 and 0, 1 and 1, 1 and 2. At first there are six clauses, and without node 2 five. Without node 1 too there were six
+abbrev fallen : List ℕ
+fallen = symbol 1 ++ and-of 0 0 ++ and-of 1 1 ++ and-of 1 2
+
+pub just-before : Is fallen (secondOf fallen) 1 (0 ∷ 1 ∷ 0 ∷ 0 ∷ []) 5
+unfolding upTo firstFrom downFrom renamedBelow definitions visitsFrom
+just-before = tt
 
 -- true, then the node before and itself twice, and the root, that or itself
 abbrev vanishing : List ℕ
