@@ -270,7 +270,7 @@ fn choose_marked(table: &[u8], marks: &[u8; 1024], allowance: u32, set: &mut [u8
         return first;
     }
     put_all(table, marks, set);
-    let second = pass(
+    let last = pass(
         table,
         marks,
         Way {
@@ -280,7 +280,7 @@ fn choose_marked(table: &[u8], marks: &[u8; 1024], allowance: u32, set: &mut [u8
         all,
         set,
     );
-    second
+    last
 }
 
 // Chooses for a table that is right.
