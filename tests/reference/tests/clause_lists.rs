@@ -1,5 +1,8 @@
 //! Totals, both ways of converting and origins, against lists made as the rules write them.
 
+mod drawn;
+
+use drawn::{table, Random};
 use reference::answer::Refusal;
 use reference::convert::{clause_bytes, each_clause, measure};
 use reference::lists::Lists;
@@ -107,40 +110,6 @@ fn size(clauses: &Clauses) -> Size {
         clauses: clauses.len() as u64,
         literals: clauses.iter().map(|clause| clause.len() as u64).sum(),
     }
-}
-
-/// Numbers drawn by xorshift.
-struct Random(u64);
-
-impl Random {
-    fn below(&mut self, end: usize) -> usize {
-        self.0 ^= self.0 << 13;
-        self.0 ^= self.0 >> 7;
-        self.0 ^= self.0 << 17;
-        (self.0 >> 11) as usize % end
-    }
-}
-
-fn table(random: &mut Random, count: usize) -> Vec<Node> {
-    let shared = random.below(2) == 0;
-    (0..count)
-        .map(|number| {
-            let child = |random: &mut Random| match shared {
-                true => number - 1 - random.below(number.min(3)),
-                false => random.below(number),
-            };
-            match random.below(if number == 0 { 3 } else { 11 }) {
-                0 => False,
-                1 => True,
-                2 => Symbol(1 + random.below(5) as u16),
-                3 | 4 => Not(child(random)),
-                5 | 6 => And(child(random), child(random)),
-                7 | 8 => Or(child(random), child(random)),
-                9 => Implies(child(random), child(random)),
-                _ => Equivalent(child(random), child(random)),
-            }
-        })
-        .collect()
 }
 
 fn some_set(random: &mut Random, nodes: &[Node]) -> Vec<bool> {

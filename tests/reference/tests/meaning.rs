@@ -1,5 +1,8 @@
 //! The clauses mean what the formula means, on every row of values of small tables.
 
+mod drawn;
+
+use drawn::Random;
 use reference::convert::{each_clause, measure};
 use reference::set::may_be_renamed;
 use reference::table::Node;
@@ -30,18 +33,6 @@ fn truths(nodes: &[Node], row: usize) -> Vec<bool> {
 fn satisfies(row: usize, clauses: &[Vec<i32>]) -> bool {
     let holds = |&literal: &i32| (row >> (literal.unsigned_abs() - 1) & 1 == 1) == (literal > 0);
     clauses.iter().all(|clause| clause.iter().any(holds))
-}
-
-/// Numbers drawn by xorshift.
-struct Random(u64);
-
-impl Random {
-    fn below(&mut self, end: usize) -> usize {
-        self.0 ^= self.0 << 13;
-        self.0 ^= self.0 >> 7;
-        self.0 ^= self.0 << 17;
-        (self.0 >> 11) as usize % end
-    }
 }
 
 fn table(random: &mut Random, count: usize) -> Vec<Node> {
