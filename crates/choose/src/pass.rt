@@ -1,5 +1,5 @@
 // The two passes over the nodes that may be renamed, the highest first: one puts nodes in, the other takes nodes out.
-ghost use mathlib.Core.Bool.{_&&_, _||_, cond, true, false};
+ghost use mathlib.Core.Bool.{_&&_, cond, true, false};
 ghost use mathlib.Core.List.{[]};
 ghost use mathlib.Core.Path.{_≡_};
 ghost use Prim.Native.Nat.{_<_};
@@ -7,7 +7,6 @@ ghost use lib.Dec.{ltb};
 ghost use Rattle.formula.specs.Tables.{mostNodes, nodesOf};
 ghost use Rattle.clausal.specs.Clauses.{renaming};
 ghost use Rattle.totals.specs.Inner.Columns.{cell};
-ghost use Rattle.clausal.specs.Totals.{clauseCeiling};
 ghost use Rattle.clausal.specs.Choosing.{choose};
 ghost use Rattle.clausal.specs.Calls.{told, chosenUnder, chosenBy};
 ghost use Rattle.choose.specs.Inner.Visits.{byteOf, keptBy, visitIn, visitOut, turnOf, passOf, Choosable, Passable, Visitable};
@@ -239,17 +238,8 @@ fn pass(table: &[u8], marks: &[u8; 1024], way: Way, picks: u32, set: &mut [u8]) 
     picked
 }
 
-// Whether the first pass decides: it ends below the ceiling, or fewer nodes are allowed than may be renamed.
-fn is_settled(total: ClauseTotal, allowance: u32, all: u32) -> bool
-    ensures { λ r. ⌜ r ≡ (ltb (total .n) clauseCeiling || ltb allowance all) ⌝ }
-{
-    if total.n < ClauseTotal::CEILING {
-        return true;
-    }
-    allowance < all
-}
-
-// Chooses for a table that is right, with its marks, from the empty set.
+// Chooses for a table that is right, with its marks, from the empty set. The first pass decides where it ends below the ceiling, or
+// where fewer nodes are allowed than may be renamed.
 fn choose_marked(table: &[u8], marks: &[u8; 1024], allowance: u32, set: &mut [u8]) -> Picked
     requires { ⌜ Passable false (now table) (now marks) 0 (now set) ⌝ }
     ensures { λ r. ⌜ record { answer = Answer.Accepted (r .picks) (r .total .n); output = now (set .exit) } ≡ told (renaming 0 [])
@@ -265,8 +255,11 @@ fn choose_marked(table: &[u8], marks: &[u8; 1024], allowance: u32, set: &mut [u8
         0,
         set,
     );
+    if first.total.n < ClauseTotal::CEILING {
+        return first;
+    }
     let all = count_all(table, marks);
-    if is_settled(first.total, allowance, all) {
+    if allowance < all {
         return first;
     }
     put_all(table, marks, set);
