@@ -192,18 +192,11 @@ module _ (drops : Bool) (ns : List Node) (i picks : ℕ) (s : List ℕ) (sum : �
             };
           })
 
--- the visit of a pass, by its way
-module _ (w : Way) (ns : List Node) (i : ℕ) (before after : Choice) (sum : ℕ) (cs ls : List (List ℕ)) where
-  pub turn-out : w .drops ≡ true → Visited true (visitOut ns) ns i before after sum cs ls
-      → Visited (w .drops) (turnOf w ns) ns i before after sum cs ls
-  turn-out e v = record {
-    choice = v .choice ∙ rw e;
-    stands = subst (λ (d : Bool). Standing d ns i after sum cs ls) (sym e) (v .stands);
-  }
-
-  pub turn-in : w .drops ≡ false → Visited false (visitIn (w .allowance) ns) ns i before after sum cs ls
-      → Visited (w .drops) (turnOf w ns) ns i before after sum cs ls
-  turn-in e v = record {
-    choice = v .choice ∙ rw e;
-    stands = subst (λ (d : Bool). Standing d ns i after sum cs ls) (sym e) (v .stands);
-  }
+-- the visit of a pass, where its way is known
+pub turn-by : (w : Way) (d : Bool) → w .drops ≡ d → (ns : List Node) (i : ℕ) (before after : Choice) (sum : ℕ) (cs ls : List (List ℕ))
+    → Visited d (λ j c. cond d (visitOut ns j c) (visitIn (w .allowance) ns j c)) ns i before after sum cs ls
+    → Visited (w .drops) (turnOf w ns) ns i before after sum cs ls
+turn-by w d e ns i before after sum cs ls v = record {
+  choice = v .choice ∙ ap (λ (x : Bool). cond x (visitOut ns i before) (visitIn (w .allowance) ns i before)) (sym e);
+  stands = subst (λ (x : Bool). Standing x ns i after sum cs ls) (sym e) (v .stands);
+}

@@ -52,9 +52,11 @@ asked c κs =
 
 still-inside : tie.Need-slice-write-set
 still-inside c =
-    let trial = c .before .before .before .before .before in
-    let toward-start = trial .before .before .before .before .before in
-    let start = toward-start .before .before .before .before in
+    let kept = c .before .before in
+    let trial = kept .before .before .before in
+    let byte = trial .before .before .before in
+    let toward-start = byte .before .before .before in
+    let start = toward-start .before .before .before in
     let a = start .args in
     let pre = start .pre .visitable in
     omega (
@@ -67,22 +69,25 @@ still-inside c =
 
 put-back : tie.Need-returns
 put-back c =
-    let trial = c .before .before .before .before .before in
-    let toward-start = trial .before .before .before .before .before in
-    let start = toward-start .before .before .before .before in
+    let kept = c .before .before in
+    let trial = kept .before .before .before in
+    let byte = trial .before .before .before in
+    let toward-start = byte .before .before .before in
+    let start = toward-start .before .before .before in
     let a = start .args in
     let pre = start .pre .visitable in
-    let kept = c .before .before .is-kept in
     rejected (a .drops) (nodesOf (a .table .now)) (a .i) (a .picked .picks) (a .set .now) _ _ _ (pre .stands)
     (omega (arith, pre .inside, length-nodesOf (a .table .now))) (start .pre .other) _ _ _ _ _ (trial .trial .ensures)
-    (trial .before .before .before .byte-of .ensures) (pre .below) _ (c .byte-of2 .ensures)
-    (sym (not-true (kept .result) (c .before .if1 .taken)) ∙ kept .ensures)
+    (byte .byte-of .ensures) (pre .below) _ (c .byte-of2 .ensures)
+    (sym (not-true (kept .is-kept .result) (c .before .if1 .taken)) ∙ kept .is-kept .ensures)
 
 some-in : tie.Need-sub-t23
 some-in c =
-    let toward-trial = c .before .before .before .before .before in
-    let toward-start = toward-trial .before .before .before .before .before in
-    let start = toward-start .before .before .before .before in
+    let kept = c .before .before in
+    let trial = kept .before .before .before in
+    let byte = trial .before .before .before in
+    let toward-start = byte .before .before .before in
+    let start = toward-start .before .before .before in
     let a = start .args in
     let pre = start .pre .visitable in
     some (a .drops) (nodesOf (a .table .now)) (a .i) (a .picked .picks) (a .set .now) _ _ _ (pre .stands)
@@ -90,22 +95,25 @@ some-in c =
 
 goes-out : tie.Need-returns-2
 goes-out c =
-    let trial = c .before .before .before .before .before in
-    let toward-start = trial .before .before .before .before .before in
-    let start = toward-start .before .before .before .before in
+    let kept = c .before .before in
+    let trial = kept .before .before .before in
+    let byte = trial .before .before .before in
+    let toward-start = byte .before .before .before in
+    let start = toward-start .before .before .before in
     let a = start .args in
     let pre = start .pre .visitable in
-    let kept = c .before .before .is-kept in
     accepted (a .drops) (nodesOf (a .table .now)) (a .i) (a .picked .picks) (a .set .now) _ _ _ (pre .stands)
     (omega (arith, pre .inside, length-nodesOf (a .table .now))) (start .pre .other) _ _ _ _ _ (trial .trial .ensures)
-    (trial .before .before .before .byte-of .ensures) _ (fewer (a .drops) (a .picked .picks) (c .if2 .taken))
-    (sym (not-false (kept .result) (c .before .if1 .left)) ∙ kept .ensures)
+    (byte .byte-of .ensures) _ (fewer (a .drops) (a .picked .picks) (c .if2 .taken))
+    (sym (not-false (kept .is-kept .result) (c .before .if1 .left)) ∙ kept .is-kept .ensures)
 
 fits : tie.Need-add-t24
 fits c =
-    let toward-trial = c .before .before .before .before .before in
-    let toward-start = toward-trial .before .before .before .before .before in
-    let start = toward-start .before .before .before .before in
+    let kept = c .before .before in
+    let trial = kept .before .before .before in
+    let byte = trial .before .before .before in
+    let toward-start = byte .before .before .before in
+    let start = toward-start .before .before .before in
     let a = start .args in
     let pre = start .pre .visitable in
     record {
@@ -120,16 +128,17 @@ fits c =
 
 goes-in : tie.Need-returns-3
 goes-in c =
-    let trial = c .before .before .before .before .before in
-    let toward-start = trial .before .before .before .before .before in
-    let start = toward-start .before .before .before .before in
+    let kept = c .before .before in
+    let trial = kept .before .before .before in
+    let byte = trial .before .before .before in
+    let toward-start = byte .before .before .before in
+    let start = toward-start .before .before .before in
     let a = start .args in
     let pre = start .pre .visitable in
-    let kept = c .before .before .is-kept in
     accepted (a .drops) (nodesOf (a .table .now)) (a .i) (a .picked .picks) (a .set .now) _ _ _ (pre .stands)
     (omega (arith, pre .inside, length-nodesOf (a .table .now))) (start .pre .other) _ _ _ _ _ (trial .trial .ensures)
-    (trial .before .before .before .byte-of .ensures) _ (more (a .drops) (a .picked .picks) (c .if2 .left))
-    (sym (not-false (kept .result) (c .before .if1 .left)) ∙ kept .ensures)
+    (byte .byte-of .ensures) _ (more (a .drops) (a .picked .picks) (c .if2 .left))
+    (sym (not-false (kept .is-kept .result) (c .before .if1 .left)) ∙ kept .is-kept .ensures)
 
 pub attempt-spec : {M : Type 1} → statement M
 attempt-spec =

@@ -45,7 +45,8 @@ again : tie.Need-pass-requires-2
 again c κs =
     let put = c .before .before .before in
     let count = put .before .before .before in
-    let pass = count .before .before .before .before .before in
+    let if1 = count .before in
+    let pass = if1 .before .before .before .before in
     let start = pass .before .before .before .before in
     record {
       marked = start .pre .marked;

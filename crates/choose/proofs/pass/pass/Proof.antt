@@ -43,7 +43,8 @@ none-lower c κs =
 loop-holds : tie.Need-loop-holds Inv-loop μ-loop
 loop-holds c =
     let whole = c .before in
-    let fill = whole .before .before .before .before .before in
+    let toward-fill = whole .before .before .before .before in
+    let fill = toward-fill .before in
     let toward-start = fill .before .before .before .before in
     let start = toward-start .before .before in
     passing-start _ _ _ _ _ _ _ _ (start .pre) (fill .fill .ensures) (ap (λ (x : Total). x .clauses .n) (whole .whole .ensures))

@@ -6,7 +6,7 @@ use Prim.Native.Nat.{ℕ}
 use borrow.Author.Needs.{needs}
 use Rattle.formula.specs.Tables.{nodesOf}
 use Rattle.choose.specs.Inner.Visits.{Visitable}
-use Rattle.choose.proofs.Laws.Visits.{turn-in, turn-out}
+use Rattle.choose.proofs.Laws.Visits.{turn-by}
 use Rattle.choose.proofs.pass.turn.Statement.{statement}
 use Rattle.choose.proofs.pass.turn.Tie as tie
 
@@ -25,7 +25,7 @@ gone c =
     let revisit = c .before .before in
     let if1 = revisit .before .before .before .before in
     let a = if1 .before .before .before .args in
-    turn-out (a .way) (nodesOf (a .table .now)) (a .i) _ _ _ _ _ (if1 .if1 .taken) (revisit .revisit .ensures)
+    turn-by (a .way) true (if1 .if1 .taken) (nodesOf (a .table .now)) (a .i) _ _ _ _ _ (revisit .revisit .ensures)
 
 comes-in : tie.Need-visit-requires
 comes-in c κs =
@@ -37,7 +37,7 @@ come c =
     let visit = c .before .before in
     let if1 = visit .before .before .before .before in
     let a = if1 .before .before .before .args in
-    turn-in (a .way) (nodesOf (a .table .now)) (a .i) _ _ _ _ _ (if1 .if1 .left) (visit .visit .ensures)
+    turn-by (a .way) false (if1 .if1 .left) (nodesOf (a .table .now)) (a .i) _ _ _ _ _ (visit .visit .ensures)
 
 pub turn-spec : {M : Type 1} → statement M
 turn-spec = tie.close (tie.spec goes-out (λ c. search needs) gone comes-in (λ c. search needs) come)
