@@ -37,10 +37,10 @@ pub fn put_all(table: &[u8], marks: &[u8; 1024], set: &mut [u8])
     requires { ⌜ Settable (now table) (now marks) (now set) ⌝ }
     ensures { λ _. ⌜ now (set .exit) ≡ allOf (nodesOf (now (table .entry))) ⌝ }
 {
-    let mut at = 0;
-    while at < set.len() {
-        set[at] = byte_at(table, marks, at);
-        at += 1;
+    let mut i = 0;
+    while i < set.len() {
+        set[i] = byte_at(table, marks, i);
+        i += 1;
     }
 }
 

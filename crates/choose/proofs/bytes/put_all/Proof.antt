@@ -38,10 +38,10 @@ putting-next before s ns at byte p h e = record {
     go j g false f = getD-set-other s at j byte 0 (eqb-false j at f) ∙ p .bytes j (omega (arith, eqb-false j at f))
 
 abbrev Inv-loop : tie.InvT-loop
-Inv-loop table marks set₀ at₀ set at = Putting set₀ set (nodesOf table) at
+Inv-loop table marks set₀ i₀ set i = Putting set₀ set (nodesOf table) i
 
 abbrev μ-loop : tie.MeasureT-loop
-μ-loop table marks set₀ at₀ set at = length set₀ - at
+μ-loop table marks set₀ i₀ set i = length set₀ - i
 
 loop-holds : tie.Need-loop-holds Inv-loop μ-loop
 loop-holds c = record { within = omega arith; size = refl; bytes = λ j g. absurd (omega arith) }
@@ -56,8 +56,8 @@ loop-again c =
     let loop = c .before .before in
     let start = loop .before .before .before in
     let t = start .args .table .now in
-    let inside : loop .loop .at < length (nodesOf t) = omega (arith, length-nodesOf t, loop .loop .inv .size, start .pre .size) in
-    putting-next _ _ _ _ _ (loop .loop .inv) (omega arith) (c .byte-at .ensures ∙ sym (all-byte (nodesOf t) (loop .loop .at) inside))
+    let inside : loop .loop .i < length (nodesOf t) = omega (arith, length-nodesOf t, loop .loop .inv .size, start .pre .size) in
+    putting-next _ _ _ _ _ (loop .loop .inv) (omega arith) (c .byte-at .ensures ∙ sym (all-byte (nodesOf t) (loop .loop .i) inside))
 
 returns : tie.Need-returns Inv-loop μ-loop
 returns c =
