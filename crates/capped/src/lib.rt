@@ -1,2 +1,3 @@
 // Clause and literal totals of lists, read at their ceilings.
+#![tactic(auto)]
 pub mod total;

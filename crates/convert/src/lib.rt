@@ -1,2 +1,3 @@
 // Converting a formula to clause bytes.
+#![tactic(auto)]
 pub mod convert;

@@ -1,4 +1,5 @@
 // DIMACS CNF: writing clause bytes as text, and reading text as clause bytes.
+#![tactic(auto)]
 mod copier;
 mod reader;
 mod writer;

@@ -1,4 +1,5 @@
 // The entries that a host calls, and nothing else. Each looks first at its answer part.
+#![tactic(auto)]
 ghost use Rattle.std.specs.Prelude.{◌≡◌, ℕ, ◌<◌, get_or};
 ghost use Rattle.answer.specs.Answers.{only, leaves};
 ghost use Rattle.formula.specs.Checks.{checked};

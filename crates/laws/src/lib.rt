@@ -1,1 +1,2 @@
 // No code: this crate has general definitions (specs/) and their laws (proofs/).
+#![tactic(auto)]

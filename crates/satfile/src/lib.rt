@@ -1,4 +1,5 @@
 // The other DIMACS format: a `p sat` text, read as the table of its formula.
+#![tactic(auto)]
 mod lead;
 mod nested;
 mod table;

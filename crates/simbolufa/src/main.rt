@@ -1,4 +1,5 @@
 // The program between standard input and standard output. What it prints is decided in the crate `program`.
+#![tactic(auto)]
 use libc::{STDIN_FILENO, STDOUT_FILENO};
 use nodefile::MOST_BYTES;
 use program::BUFFER;

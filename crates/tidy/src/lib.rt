@@ -1,4 +1,5 @@
 // Tidying clause bytes: literals that stand twice, tautologies and repeats are left out, and lines tell what went.
+#![tactic(auto)]
 mod pass;
 mod window;
 
