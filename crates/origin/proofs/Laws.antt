@@ -3,8 +3,10 @@ pub mod Clauses
 pub mod Firsts
 pub mod Lines
 pub mod Opens
+pub mod Only
 pub mod Pens
 pub mod Shown
 pub mod Sources
 pub mod Spoken
+pub mod Spots
 pub mod Ways

@@ -8,6 +8,9 @@ use Rattle.answer.specs.Answers.{Wrote}
 use contract.Lifetimes.{Lfts}
 use denote.Triple.Clauses.{AtExit}
 use borrow.Fn.Kinds.{Dens, ended_of, res_t}
+use Rattle.origin.proofs.Laws.Only.{stood_only}
+use Rattle.origin.proofs.part.find.Kinds as find-kinds
+use Rattle.origin.proofs.part.find.Reads as find
 use Rattle.origin.proofs.calls.origin.Kinds as origin-kinds
 use Rattle.origin.proofs.calls.origin.Reads as origin
 use Rattle.origin.proofs.calls.origins.Kinds as origins-kinds
@@ -25,3 +28,8 @@ pub origins-settled : (κs : Lfts 4) (a : Dens κs origins-kinds.ps) (r q : (res
     (s t : AtExit (ended_of 4 origins-kinds.ps origins-kinds.r) κs)
     → origins.Post κs a r s → origins.Post κs a q t → (r ≡ q) × (s.1.1.1.1.1.0.now ≡ t.1.1.1.1.1.0.now)
 origins-settled κs a r q s t e f = both (e ∙ sym f)
+
+pub find-settled : (κs : Lfts 3) (a : Dens κs find-kinds.ps) (r q : (res_t find-kinds.r κs).Denot)
+    (s t : AtExit (ended_of 3 find-kinds.ps find-kinds.r) κs)
+    → find.Post κs a r s → find.Post κs a q t → r ≡ q
+find-settled κs a r q s t e f = stood_only _ _ _ _ r q e f

@@ -3,4 +3,5 @@ pub mod Grounds
 pub mod Lines
 pub mod Pens
 pub mod Shown
+pub mod Spots
 pub mod Ways

@@ -3,4 +3,5 @@
 pub mod calls;
 mod line;
 mod literal;
+mod part;
 mod pen;

@@ -5,7 +5,7 @@ ghost use Rattle.clausal.specs.Clauses.{renaming};
 ghost use Rattle.names.specs.Names.{name_of};
 ghost use Rattle.walk.specs.Inner.Lists.{names_in, own_list};
 ghost use Rattle.parts.specs.Inner.Parts.{helper_literal};
-ghost use Rattle.spots.specs.Inner.Spots.{direction_of, sign_of};
+ghost use Rattle.origin.specs.Inner.Spots.{direction_of, sign_of};
 ghost use Rattle.origin.specs.Origins.{direction_word};
 ghost use Rattle.origin.specs.Inner.Grounds.{spot_clause, spot_line};
 ghost use Rattle.origin.specs.Inner.Lines.{field_text, source_text, literals_text, lines_from, Known, Voiced, Spoken, Spotted, Tellable};
@@ -15,7 +15,7 @@ ghost use Rattle.origin.specs.Inner.Ways.{Startable};
 use crate::literal::{first, next};
 use crate::pen::{Pen, put, put_decimal};
 use names::lookup::lookup;
-use spots::{Direction, Spot, find};
+use crate::part::{Direction, Spot, find};
 
 // Puts a number in decimal and a tab.
 fn put_field(out: &mut [u8], pen: Pen, number: u32) -> Pen

@@ -14,8 +14,8 @@ use Rattle.names.specs.Names.{name_of}
 use Rattle.clausal.specs.Clauses.{Literal, Clause}
 use Rattle.walk.specs.Inner.Lists.{names_in, own_list}
 use Rattle.parts.specs.Inner.Parts.{helper_literal, around}
-use Rattle.spots.specs.Inner.Spots.{sign_of}
-use Rattle.spots.specs.declared.Spot.{Spot}
+use Rattle.origin.specs.Inner.Spots.{sign_of}
+use Rattle.origin.specs.declared.part.Spot.{Spot}
 use Rattle.origin.specs.Inner.Grounds.{spot_clause}
 use Rattle.origin.specs.Inner.Lines.{name_count, literals_text, Ranged, Known, Voiced, Spoken, Spotted}
 use Rattle.origin.specs.Inner.Ways.{waiting_clause, Waiting, Startable, FirstOf}

@@ -25,10 +25,10 @@ use Rattle.clausal.proofs.Names.{output-named, variable_range}
 use Rattle.walk.specs.Inner.Lists.{names_in, own_list, shown_all}
 use Rattle.walk.specs.Inner.Written.{Writable}
 use Rattle.convert.proofs.Laws.Written as written
-use Rattle.spots.specs.Inner.Spots.{direction_of, sign_of, spot, count_at, start_at, Inside, Sought, Stood}
-use Rattle.spots.specs.declared.Direction.TheVariants.{Root, Down, Up}
-use Rattle.spots.specs.declared.Direction.{Direction}
-use Rattle.spots.specs.declared.Spot.{Spot}
+use Rattle.origin.specs.Inner.Spots.{direction_of, sign_of, spot, count_at, start_at, Inside, Sought, Stood}
+use Rattle.origin.specs.declared.part.Direction.TheVariants.{Root, Down, Up}
+use Rattle.origin.specs.declared.part.Direction.{Direction}
+use Rattle.origin.specs.declared.part.Spot.{Spot}
 use Rattle.origin.specs.Origins.{Source, direction_word, shown_literal, fields_of, line_text, line_of}
 use Rattle.origin.specs.Inner.Grounds.{Ground, spot_clause, spot_source, spot_line}
 use Rattle.origin.specs.Inner.Lines.{name_count, source_text, tabbed, literals_text, lines_from, Ranged}

@@ -28,10 +28,10 @@ use Rattle.walk.proofs.Laws.Counts.{own-count}
 use Rattle.parts.specs.Inner.Parts.{around, part_of}
 use Rattle.parts.proofs.Laws.Output.{contents_append, root-written, down-written, up-written, root-plain}
 use Rattle.convert.proofs.Laws.Written as written
-use Rattle.spots.specs.Inner.Spots.{direction_of, sign_of, half_count, count_at, defined_below, start_at, Inside}
-use Rattle.spots.specs.declared.Direction.{Direction}
-use Rattle.spots.specs.declared.Direction.TheVariants.{Root, Down, Up}
-use Rattle.spots.specs.declared.Spot.{Spot}
+use Rattle.origin.specs.Inner.Spots.{direction_of, sign_of, half_count, count_at, defined_below, start_at, Inside}
+use Rattle.origin.specs.declared.part.Direction.{Direction}
+use Rattle.origin.specs.declared.part.Direction.TheVariants.{Root, Down, Up}
+use Rattle.origin.specs.declared.part.Spot.{Spot}
 use Rattle.origin.specs.Origins.{Source, part_in, source_at, source_of, line_of, fields_of, line_text}
 use Rattle.origin.specs.Inner.Grounds.{Ground, spot_clause, spot_source, spot_line}
 

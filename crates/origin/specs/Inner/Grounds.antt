@@ -12,8 +12,8 @@ use Rattle.walk.specs.Inner.Lists.{own_list}
 use Rattle.parts.specs.Inner.Helpers.{helpers_of}
 use Rattle.parts.specs.Inner.Parts.{around}
 use Rattle.convert.specs.Inner.Fitted.{Prepared}
-use Rattle.spots.specs.Inner.Spots.{direction_of, sign_of}
-use Rattle.spots.specs.declared.Spot.{Spot}
+use Rattle.origin.specs.Inner.Spots.{direction_of, sign_of}
+use Rattle.origin.specs.declared.part.Spot.{Spot}
 use Rattle.origin.specs.Origins.{Source, fields_of, line_text}
 
 -- a formula under a set, both right, below the ceiling, with its marks, totals and helpers

@@ -10,8 +10,8 @@ use Rattle.names.specs.Inner.Notes.{Noted}
 use Rattle.clausal.specs.Clauses.{Literal, Clause, Renaming, renaming, renamed_below}
 use Rattle.clausal.specs.Output.{output_of}
 use Rattle.walk.specs.Inner.Lists.{names_in, own_list, shown_all}
-use Rattle.spots.specs.Inner.Spots.{direction_of, sign_of}
-use Rattle.spots.specs.declared.Spot.{Spot}
+use Rattle.origin.specs.Inner.Spots.{direction_of, sign_of}
+use Rattle.origin.specs.declared.part.Spot.{Spot}
 use Rattle.origin.specs.Origins.{direction_word, shown_literal, line_of}
 use Rattle.origin.specs.Inner.Grounds.{Ground, spot_clause}
 use Rattle.origin.specs.Inner.Pens.{Standing, Drawn}

@@ -1,8 +1,8 @@
 -- `origin::line::put_direction` meets its contract: each direction has its word. Assumes nothing.
 use mathlib.Core.Path.{◌≡◌, ap}
 use borrow.Author.Rules.{rules}
-use Rattle.spots.specs.Inner.Spots.{direction_of}
-use Rattle.spots.specs.declared.Direction.{Direction}
+use Rattle.origin.specs.Inner.Spots.{direction_of}
+use Rattle.origin.specs.declared.part.Direction.{Direction}
 use Rattle.origin.specs.Origins.{direction_word}
 use Rattle.origin.proofs.Laws.Pens.{drawn_as}
 use Rattle.origin.proofs.line.put_direction.Statement.{statement}

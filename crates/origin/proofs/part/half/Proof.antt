@@ -1,10 +1,10 @@
--- `spots::half` meets its contract: the tests stand in the order of the definition. Assumes nothing.
+-- `origin::part::half` meets its contract: the tests stand in the order of the definition. Assumes nothing.
 use mathlib.Core.Path.{sym, ◌∙◌}
 use borrow.Author.Rules.{rules}
 use borrow.Author.Tests.{not-true, not-false}
-use Rattle.spots.proofs.Laws.Spots.{half-plain, half-none, half-has}
-use Rattle.spots.proofs.half.Statement.{statement}
-use Rattle.spots.proofs.half.Tie as tie
+use Rattle.origin.proofs.Laws.Spots.{half-plain, half-none, half-has}
+use Rattle.origin.proofs.part.half.Statement.{statement}
+use Rattle.origin.proofs.part.half.Tie as tie
 
 plain : tie.Need-returns
 plain c =

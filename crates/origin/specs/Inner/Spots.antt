@@ -7,9 +7,9 @@ use Rattle.marks.specs.Marks.{halves_of}
 use Rattle.marks.specs.Sets.{renamed}
 use Rattle.clausal.specs.Output as output
 use Rattle.walk.specs.Inner.Lists.{signed, pair_in}
-use Rattle.spots.specs.declared.Direction.{Direction}
-use Rattle.spots.specs.declared.Direction.TheVariants.{Root, Down, Up}
-use Rattle.spots.specs.declared.Spot.{Spot}
+use Rattle.origin.specs.declared.part.Direction.{Direction}
+use Rattle.origin.specs.declared.part.Direction.TheVariants.{Root, Down, Up}
+use Rattle.origin.specs.declared.part.Spot.{Spot}
 
 -- the direction of the rules, and the sign of the node's list
 abbrev pub direction_of : Direction → output.Direction

@@ -1,8 +1,7 @@
 // The parts of the output, one after the other, and the part in which a clause stands.
-#![tactic(auto)]
 ghost use Rattle.std.specs.Prelude.{◌≡◌, ◌-◌, ◌<◌, ◌≤◌};
 ghost use Rattle.formula.specs.Tables.{most_nodes};
-ghost use Rattle.spots.specs.Inner.Spots.{half_count, count_at, onward_of, Sought, Stood};
+ghost use Rattle.origin.specs.Inner.Spots.{half_count, count_at, onward_of, Sought, Stood};
 
 use marks::mark::{halves_of, read};
 use marks::set::is_renamed;

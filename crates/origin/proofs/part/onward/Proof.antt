@@ -1,11 +1,11 @@
--- `spots::onward` meets its contract: root, then down and up of each node. Assumes nothing.
+-- `origin::part::onward` meets its contract: root, then down and up of each node. Assumes nothing.
 use mathlib.Core.Path.{sym, ap}
 use Prim.Native.Nat.{◌-◌}
 use borrow.Author.Rules.{rules}
-use Rattle.spots.specs.Inner.Spots.{onward_of}
-use Rattle.spots.specs.declared.Direction.{Direction}
-use Rattle.spots.proofs.onward.Statement.{statement}
-use Rattle.spots.proofs.onward.Tie as tie
+use Rattle.origin.specs.Inner.Spots.{onward_of}
+use Rattle.origin.specs.declared.part.Direction.{Direction}
+use Rattle.origin.proofs.part.onward.Statement.{statement}
+use Rattle.origin.proofs.part.onward.Tie as tie
 
 behind-root : tie.Need-returns
 behind-root c =

@@ -1,11 +1,11 @@
--- `spots::find` meets its contract. The loop's invariant: the clause stands as many clauses behind the part as `number` says.
+-- `origin::part::find` meets its contract. The loop's invariant: the clause stands as many clauses behind the part as `number` says.
 -- The measure is the number of parts that are left. Assumes nothing.
 use lib.ListN.{length}
-use Rattle.spots.proofs.Laws.Spots.{parts_left, inside-few, Seeking, seeking_start}
-use Rattle.spots.proofs.Laws.Spots.{seeking_few, seeking_found, seeking_on, seeking_next}
-use Rattle.spots.proofs.Laws.Spots.{seeking_less}
-use Rattle.spots.proofs.find.Statement.{statement}
-use Rattle.spots.proofs.find.Tie as tie
+use Rattle.origin.proofs.Laws.Spots.{parts_left, inside-few, Seeking, seeking_start}
+use Rattle.origin.proofs.Laws.Spots.{seeking_few, seeking_found, seeking_on, seeking_next}
+use Rattle.origin.proofs.Laws.Spots.{seeking_less}
+use Rattle.origin.proofs.part.find.Statement.{statement}
+use Rattle.origin.proofs.part.find.Tie as tie
 
 abbrev invariant-loop : tie.invariant-loop
 invariant-loop marks set clauses spot₀ each₀ spot each = Seeking set marks clauses spot₀ spot each

@@ -6,10 +6,10 @@ use Prim.Native.Nat.{ℕ, zero, suc, ◌+◌, ◌-◌, ◌≤◌, ◌<◌}
 use native.Mathlib.Decide.{dec_lt}
 use native.Mathlib.Omega.{arith}
 use lib.ListN.{length}
-use Rattle.spots.specs.Inner.Spots.{spot, count_at, defined_below, start_at, Inside, Stood}
-use Rattle.spots.specs.declared.Direction.{Direction}
-use Rattle.spots.specs.declared.Direction.TheVariants.{Root, Down, Up}
-use Rattle.spots.specs.declared.Spot.{Spot}
+use Rattle.origin.specs.Inner.Spots.{spot, count_at, defined_below, start_at, Inside, Stood}
+use Rattle.origin.specs.declared.part.Direction.{Direction}
+use Rattle.origin.specs.declared.part.Direction.TheVariants.{Root, Down, Up}
+use Rattle.origin.specs.declared.part.Spot.{Spot}
 
 module _ (s marks : List ℕ) (cs : List (List ℕ)) where
   abbrev root_count : ℕ

@@ -11,10 +11,10 @@ use lib.ListN.{length}
 use Rattle.formula.specs.Tables.{most_nodes}
 use Rattle.marks.specs.Sets.{renamed}
 use Rattle.walk.specs.Inner.Lists.{signed, pair_in}
-use Rattle.spots.specs.Inner.Spots.{onward_of, half_count, count_at, defined_below, start_at, Inside, Sought, Stood}
-use Rattle.spots.specs.declared.Direction.{Direction}
-use Rattle.spots.specs.declared.Direction.TheVariants.{Root, Down, Up}
-use Rattle.spots.specs.declared.Spot.{Spot}
+use Rattle.origin.specs.Inner.Spots.{onward_of, half_count, count_at, defined_below, start_at, Inside, Sought, Stood}
+use Rattle.origin.specs.declared.part.Direction.{Direction}
+use Rattle.origin.specs.declared.part.Direction.TheVariants.{Root, Down, Up}
+use Rattle.origin.specs.declared.part.Spot.{Spot}
 
 -- how many parts are left
 abbrev pub parts_left : ℕ → Direction → ℕ → ℕ

@@ -1,13 +1,13 @@
--- `spots::count` meets its contract: the root's clauses, or those of a half that the node has. Assumes nothing.
+-- `origin::part::count` meets its contract: the root's clauses, or those of a half that the node has. Assumes nothing.
 use mathlib.Core.Path.{ap, ◌∙◌}
 use mathlib.Core.Bool.{true, false}
 use borrow.Author.Rules.{rules}
 use Rattle.marks.specs.Marks.{halves_of}
 use Rattle.marks.specs.declared.mark.Halves.{Halves}
-use Rattle.spots.specs.Inner.Spots.{half_count}
-use Rattle.spots.proofs.Laws.Spots.{count_as}
-use Rattle.spots.proofs.count.Statement.{statement}
-use Rattle.spots.proofs.count.Tie as tie
+use Rattle.origin.specs.Inner.Spots.{half_count}
+use Rattle.origin.proofs.Laws.Spots.{count_as}
+use Rattle.origin.proofs.part.count.Statement.{statement}
+use Rattle.origin.proofs.part.count.Tie as tie
 
 at-root : tie.Need-returns
 at-root c =

@@ -1,3 +1,0 @@
--- Laws of spots, by subject.
-pub mod Only
-pub mod Spots
