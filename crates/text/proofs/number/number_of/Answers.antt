@@ -1,0 +1,39 @@
+-- `text::number::number_of` meets its contract: each turn takes a digit in; the first fault decides. Assumes nothing.
+use mathlib.Core.Path.{◌≡◌, sym, ap, ◌∙◌}
+use Prim.Native.Nat.{ℕ, ◌-◌}
+use native.Mathlib.Omega.{arith}
+use borrow.Author.Tests.{not-true, not-false}
+use lib.Dec.{ltb}
+use lib.ListN.{get_or}
+use Rattle.text.specs.Inner.Numbers.{grown_of}
+use Rattle.text.proofs.Laws.Fields.{reading_none, reading_start, reading_no_digit, reading_over, reading_more, reading_end}
+use Rattle.text.proofs.number.number_of.Goals as goal
+
+-- no digit
+pub returns-then-not-is_digit : goal.returns-then-not-is_digit
+returns-then-not-is_digit c =
+    reading_no_digit c.loop-i.invariant.1 c.loop-i-test.true (sym c.is_digit.ensures ∙ not-true _ c.if-not-is_digit.true-raw)
+
+-- a leading zero, or over the limit
+pub returns-in_default : goal.returns-in_default
+returns-in_default c =
+    reading_over c.loop-i.invariant.1 c.loop-i-test.true (sym ((let taken : let l = c.loop-i in let x = c.args in c.grown.result ≡ grown_of (ltb 0 l.i) l.value (get_or x.bytes.now l.i 0 - 48) x.most = let l = c.loop-i in let x = c.args in c.grown.ensures ∙ ap (λ (d : ℕ). grown_of (ltb 0 l.i) l.value d x.most) c.digit_of.ensures in taken)) ∙ c.in_default.is)
+
+pub loop-i-preserved : goal.loop-i-preserved
+loop-i-preserved c =
+    let l = c.loop-i in
+    let is = sym c.is_digit.ensures ∙ not-false _ c.if-not-is_digit.false-raw in
+    (l.invariant.0, reading_more l.invariant.1 c.loop-i-test.true _ is (sym ((let taken : let l = c.loop-i in let x = c.args in c.grown.result ≡ grown_of (ltb 0 l.i) l.value (get_or x.bytes.now l.i 0 - 48) x.most = let l = c.loop-i in let x = c.args in c.grown.ensures ∙ ap (λ (d : ℕ). grown_of (ltb 0 l.i) l.value d x.most) c.digit_of.ensures in taken)) ∙ c.in-Is.is))
+
+pub returns : goal.returns
+returns c =
+    let l = c.loop-i in
+    reading_end l.invariant.1 (omega (arith, l.invariant.0, c.loop-i-test.false)) c.loop-i-test.false
+
+pub returns-then-bytes-eq0 : goal.returns-then-bytes-eq0
+returns-then-bytes-eq0 c =
+    let x = c.args in reading_none x.most x.bytes.now c.if-bytes-eq0.true
+
+pub loop-i-init : goal.loop-i-init
+loop-i-init c =
+    let x = c.args in (omega arith, reading_start x.most x.bytes.now)
