@@ -6,7 +6,7 @@ ghost use Rattle.laws.specs.Numbers.{cap, little};
 ghost use Rattle.answer.specs.Answers.{refused, told_of, refuses, most_shown};
 ghost use Rattle.answer.specs.Inner.Given.{Given};
 
-#[derive(Drop)]
+#[derive(Clone, Copy)]
 pub enum Answer {
     // No refusal. The two numbers are variables or picks, and clauses or total; of a bare check both are 0.
     Accepted { first: u32, second: u32 },
@@ -43,7 +43,7 @@ pub enum Answer {
 }
 
 // The four numbers of an answer.
-#[derive(Drop)]
+#[derive(Clone, Copy)]
 pub struct Told {
     pub number: u32,
     pub place: usize,

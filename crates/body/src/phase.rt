@@ -3,7 +3,7 @@ ghost use Rattle.std.specs.Prelude.{◌≡◌};
 ghost use Rattle.body.specs.Inner.Table.{ends_in, is_dead, is_number};
 
 // Where in a text the reader is.
-#[derive(Drop)]
+#[derive(Clone, Copy)]
 pub enum Phase {
     // Where a literal or a zero may begin.
     Between,

@@ -9,7 +9,7 @@ ghost use Rattle.body.specs.Inner.States.{start_of, to_of, dead_of, close_of, op
 use crate::phase::{Phase, ends_in, is_dead, is_number};
 use clausebytes::limits::MOST_LITERALS;
 
-#[derive(Drop)]
+#[derive(Clone, Copy)]
 pub struct State {
     pub phase: Phase,
     // The running place: bytes passed while the text begins some accepted text.

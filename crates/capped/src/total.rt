@@ -22,7 +22,7 @@ fn capped_at(ceiling: u32, number: u64) -> u32
 }
 
 // A clause total.
-#[derive(Drop)]
+#[derive(Clone, Copy)]
 pub struct ClauseTotal {
     pub n: u16,
 }
@@ -61,7 +61,7 @@ impl ClauseTotal {
 }
 
 // A literal total.
-#[derive(Drop)]
+#[derive(Clone, Copy)]
 pub struct LiteralTotal {
     pub n: u32,
 }
@@ -108,7 +108,7 @@ impl LiteralTotal {
 }
 
 // Both totals of a list.
-#[derive(Drop)]
+#[derive(Clone, Copy)]
 pub struct Total {
     pub clauses: ClauseTotal,
     pub literals: LiteralTotal,

@@ -19,14 +19,14 @@ use totals::trial::trial;
 use totals::whole::whole;
 
 // How many nodes are in, and the clause total with them.
-#[derive(Drop)]
+#[derive(Clone, Copy)]
 pub struct Picked {
     pub picks: u32,
     pub total: ClauseTotal,
 }
 
 // What a pass does: it takes nodes out, or it puts nodes in, while fewer than the allowance are in.
-#[derive(Drop)]
+#[derive(Clone, Copy)]
 pub struct Way {
     pub drops: bool,
     pub allowance: u32,

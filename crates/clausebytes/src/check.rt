@@ -5,7 +5,7 @@ ghost use Rattle.clausebytes.specs.Inner.Checks.{checked_of};
 use crate::limits::{MOST_CLAUSES, MOST_LITERALS, MOST_VARIABLES};
 use crate::word::{magnitude, word_at};
 
-#[derive(Drop)]
+#[derive(Clone, Copy)]
 pub enum Checked {
     Wrong,
     // How many there are of both.

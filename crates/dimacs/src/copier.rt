@@ -12,7 +12,7 @@ use classes::{is_digit, is_white};
 use clausebytes::word::complement;
 
 // What has been read of a word.
-#[derive(Drop)]
+#[derive(Clone, Copy)]
 pub struct Pen {
     // Whether a `-` or a digit of it was read.
     pub begun: bool,

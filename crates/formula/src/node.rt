@@ -25,7 +25,7 @@ const CHILD_NOT_BELOW: u32 = 13;
 
 const SYMBOL_OUTSIDE: u32 = 14;
 
-#[derive(Drop)]
+#[derive(Clone, Copy)]
 pub enum Kind {
     False,
     True,
@@ -39,7 +39,7 @@ pub enum Kind {
     Unknown,
 }
 
-#[derive(Drop)]
+#[derive(Clone, Copy)]
 pub struct Node {
     pub kind: Kind,
     pub a: usize,
@@ -47,7 +47,7 @@ pub struct Node {
 }
 
 // What a field of a record holds.
-#[derive(Drop)]
+#[derive(Clone, Copy)]
 pub enum Use {
     // Nothing: it is zero.
     Unused,

@@ -11,7 +11,7 @@ use classes::{BLANK, NEWLINE, is_letter, is_of};
 use text::number::{Number, digit_of, grown};
 
 // Where in the head the reader is.
-#[derive(Drop)]
+#[derive(Clone, Copy)]
 pub enum Spot {
     // At the start of a line, before the header.
     Line,
@@ -35,7 +35,7 @@ pub enum Spot {
     After,
 }
 
-#[derive(Drop)]
+#[derive(Clone, Copy)]
 pub enum Phase {
     At(Spot),
     // Behind the newline that ends the header.
@@ -45,7 +45,7 @@ pub enum Phase {
 }
 
 // What a header has: the letters of its word, and the limits of its numbers.
-#[derive(Drop)]
+#[derive(Clone, Copy)]
 pub struct Form {
     pub first: u8,
     pub second: u8,
@@ -57,7 +57,7 @@ pub struct Form {
     pub last: u32,
 }
 
-#[derive(Drop)]
+#[derive(Clone, Copy)]
 pub struct Head {
     pub phase: Phase,
     // The running place: bytes passed while the text begins some accepted text.

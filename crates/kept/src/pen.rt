@@ -8,7 +8,7 @@ use answer::put;
 use text::number::width;
 use text::write::{put_bytes, put_field, put_number};
 
-#[derive(Drop)]
+#[derive(Clone, Copy)]
 pub struct Pen {
     // Whether what is put is written, or only measured.
     pub writing: bool,
@@ -21,7 +21,7 @@ pub struct Pen {
 }
 
 // Why something goes.
-#[derive(Drop)]
+#[derive(Clone, Copy)]
 pub enum Cause {
     // A literal stands in the clause before.
     Literal,

@@ -6,14 +6,14 @@ ghost use Rattle.marks.specs.Marks.{unmarked, joined, turned, doubled, to_a, to_
 
 use formula::node::{Kind, NODE_BYTES, Node, node_at};
 
-#[derive(Drop)]
+#[derive(Clone, Copy)]
 pub struct Mark {
     pub positive: bool,
     pub negative: bool,
 }
 
 // Which halves the definition of a renamed node has.
-#[derive(Drop)]
+#[derive(Clone, Copy)]
 pub struct Halves {
     pub down: bool,
     pub up: bool,

@@ -14,14 +14,14 @@ const MOST_KIND: u32 = 255;
 
 const MOST_NUMBER: u32 = 65_535;
 
-#[derive(Drop)]
+#[derive(Clone, Copy)]
 pub enum Node {
     // The line is no node line, or that of another node.
     Wrong,
     Is { kind: u8, a: usize, b: usize },
 }
 
-#[derive(Drop)]
+#[derive(Clone, Copy)]
 pub enum OptionsAt {
     // The line is wrong, or not ended.
     Wrong,
@@ -29,7 +29,7 @@ pub enum OptionsAt {
     Right { count: u32, next: usize },
 }
 
-#[derive(Drop)]
+#[derive(Clone, Copy)]
 pub enum NodeAt {
     // The line is wrong, or not ended, or of a node too many.
     Wrong,

@@ -8,7 +8,7 @@ ghost use Rattle.origin.specs.Inner.Ways.{Waiting, Startable, Openable, Opened, 
 
 use walk::step::{Parts, Way, lead, pack_way, unpack, unpack_way};
 
-#[derive(Drop)]
+#[derive(Clone, Copy)]
 pub struct Found {
     // Whether there is a literal.
     pub is: bool,

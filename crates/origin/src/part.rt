@@ -7,7 +7,7 @@ use marks::mark::{halves_of, read};
 use marks::set::is_renamed;
 use walk::count::own_count;
 
-#[derive(Drop)]
+#[derive(Clone, Copy)]
 pub enum Direction {
     // The root part.
     Root,
@@ -18,7 +18,7 @@ pub enum Direction {
 }
 
 // A clause of a part: the part's direction and node, and the clause's number in it.
-#[derive(Drop)]
+#[derive(Clone, Copy)]
 pub struct Spot {
     pub direction: Direction,
     pub node: usize,

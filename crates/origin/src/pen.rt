@@ -5,7 +5,7 @@ ghost use Rattle.origin.specs.Inner.Pens.{Standing, Drawn};
 use text::number::width;
 use text::write::{put_bytes, put_number};
 
-#[derive(Drop)]
+#[derive(Clone, Copy)]
 pub struct Pen {
     // The place behind what was put.
     pub at: usize,

@@ -15,7 +15,7 @@ const PLUS: u8 = 43;
 const MINUS: u8 = 45;
 
 // What formulas stand in together.
-#[derive(Drop)]
+#[derive(Clone, Copy)]
 pub enum Group {
     // The list of `*(`.
     And,
@@ -30,7 +30,7 @@ pub enum Group {
 }
 
 // How a formula begins.
-#[derive(Drop)]
+#[derive(Clone, Copy)]
 pub enum Lead {
     // A symbol, negated or not, and the place behind it.
     Symbol {
@@ -50,7 +50,7 @@ pub enum Lead {
 }
 
 // A number that is read.
-#[derive(Drop)]
+#[derive(Clone, Copy)]
 pub enum Numeral {
     // Its value, and the place behind it.
     Is { value: u32, at: usize },

@@ -10,7 +10,7 @@ use classes::is_space;
 const CLOSE: u8 = 41;
 
 // A part of a text that is read.
-#[derive(Drop)]
+#[derive(Clone, Copy)]
 pub enum Part {
     // The place behind it, and the number of the next node.
     Done { at: usize, next: usize },

@@ -3,7 +3,7 @@ ghost use Rattle.std.specs.Prelude.{◌≡◌, ◌-◌, length};
 ghost use Rattle.text.specs.Texts.{decimal};
 ghost use Rattle.text.specs.Inner.Numbers.{is_digit, grown_of, number_of};
 
-#[derive(Drop)]
+#[derive(Clone, Copy)]
 pub enum Number {
     // No decimal number, or one over its limit.
     Wrong,

@@ -5,7 +5,7 @@ ghost use Rattle.text.specs.Inner.Pieces.{MarkAt, field_at};
 
 use crate::number::{Number, number_of};
 
-#[derive(Drop)]
+#[derive(Clone, Copy)]
 pub enum Field {
     // There is no piece, or it is no number up to the limit.
     Wrong,

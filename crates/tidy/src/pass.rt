@@ -13,7 +13,7 @@ use kept::pen::Pen;
 use sets::set::end_of;
 
 // The place behind a window, and the pen there.
-#[derive(Drop)]
+#[derive(Clone, Copy)]
 pub struct Walked {
     pub place: usize,
     pub pen: Pen,

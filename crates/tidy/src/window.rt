@@ -17,7 +17,7 @@ const ALL: usize = 67_107_840;
 const LAST: u32 = 15;
 
 // A clause that is looked for in a window.
-#[derive(Drop)]
+#[derive(Clone, Copy)]
 pub struct Spot {
     pub number: u32,
     pub place: usize,
@@ -25,14 +25,14 @@ pub struct Spot {
 }
 
 // The numbers that were found, where the search was not given up.
-#[derive(Drop)]
+#[derive(Clone, Copy)]
 pub struct Found {
     pub done: bool,
     pub firsts: [u32; 1024],
 }
 
 // The numbers of the first clauses, and the seed with which they were found.
-#[derive(Drop)]
+#[derive(Clone, Copy)]
 pub struct Firsts {
     pub seed: u32,
     pub firsts: [u32; 1024],

@@ -8,7 +8,7 @@ use capped::total::Total;
 use marks::mark::mark_all;
 
 // The check of a set, and the totals under it where it is right.
-#[derive(Drop)]
+#[derive(Clone, Copy)]
 pub struct Prepared {
     pub right: Answer,
     pub sum: Total,

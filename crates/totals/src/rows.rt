@@ -11,7 +11,7 @@ use formula::node::{Kind, NODE_BYTES, Node, node_at};
 use marks::set::is_renamed;
 
 // The totals of P and of N of a node.
-#[derive(Drop)]
+#[derive(Clone, Copy)]
 pub struct Row {
     pub p: Total,
     pub n: Total,

@@ -10,7 +10,7 @@ use crate::count::own_count;
 use formula::node::{Kind, Node, node_at};
 
 // Clause k of the list of a node for a sign, as it is seen as a child.
-#[derive(Drop)]
+#[derive(Clone, Copy)]
 pub struct Way {
     pub node: usize,
     pub sign: bool,
@@ -18,7 +18,7 @@ pub struct Way {
 }
 
 // What the literals of a clause are made of.
-#[derive(Drop)]
+#[derive(Clone, Copy)]
 pub enum Parts {
     // There is none.
     Nothing,
@@ -33,7 +33,7 @@ pub enum Parts {
 }
 
 // One step of the writer: what its clause is made of, and with what.
-#[derive(Drop)]
+#[derive(Clone, Copy)]
 pub struct Step {
     pub parts: Parts,
     pub variable: u32,

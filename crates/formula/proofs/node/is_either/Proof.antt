@@ -1,7 +1,0 @@
--- `formula::node::is_either` meets its contract: the one, or else the other. Assumes nothing.
-use borrow.Author.Tests.{eq-eqb, ne_eqb}
-use Rattle.formula.proofs.node.is_either.Statement.{statement}
-use Rattle.formula.proofs.node.is_either.Tie as tie
-
-pub is_either_spec : {M : Type 1} → statement M
-is_either_spec = tie.close (tie.spec (λ c. rw (eq-eqb _ _ c.if1.true)) (λ c. rw (ne_eqb _ _ c.if1.false)))

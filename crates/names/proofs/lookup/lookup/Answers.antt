@@ -1,0 +1,12 @@
+-- `names::lookup::lookup` meets its contract: one of the two lists is looked into, and the notes of the other stay.
+-- Assumes nothing.
+use Rattle.names.proofs.Laws.Notes.{within-options, within-helpers, looked_option, looked_helper}
+use Rattle.names.proofs.lookup.lookup.Goals as goal
+
+pub name_in-requires : goal.name_in-requires
+name_in-requires c =
+    within-options c.requires c.if-n-v.true
+
+pub name_in-requires-2 : goal.name_in-requires-2
+name_in-requires-2 c =
+    within-helpers c.requires c.if-n-v.false
