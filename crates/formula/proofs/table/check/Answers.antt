@@ -23,6 +23,18 @@ overflow_cast-result c =
     let most = (right-length (length t) (sym c.is_length_wrong-length_wrong.ensures ∙ c.if-length_wrong.false)).most in
     omega (arith, most, c.if-node-table.true)
 
+pub returns-then-node-table : goal.returns-then-node-table
+returns-then-node-table c =
+    rw (
+      ← c.is_length_wrong-length_wrong.ensures,
+      c.if-length_wrong.false,
+      c.if-too_many_options.false-raw,
+      ← c.first_wrong-node.ensures,
+      lt-ltb _ _
+          c.if-node-table.true,
+    )
+    (rw (c.fault.ensures, c.node_at.ensures))
+
 pub returns : goal.returns
 returns c =
     rw (← c.is_length_wrong-length_wrong.ensures, c.if-length_wrong.false, c.if-too_many_options.false-raw, ← c.first_wrong-node.ensures, le-ltb _ _ c.if-node-table.false)
