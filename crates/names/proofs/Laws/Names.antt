@@ -117,7 +117,7 @@ unfolding names_are listed
 names-listed n [] h = absurd (false≢true h)
 names-listed zero (p ∷ ps) h =
     let b = both (is_none p) (is_none ps) h in
-    rw (none_of p b.0, none_of ps b.1)
+    rw (none_of ps b.1) (none_of p b.0)
 names-listed (suc n) (p ∷ []) h = absurd (false≢true (both (is_name p) (names_are n []) h).1)
 names-listed (suc n) (p ∷ q ∷ ps) h =
     ap (λ (l : List ℕ). p ++ (newline ∷ l)) (names-listed n (q ∷ ps) (both (is_name p) (names_are n (q ∷ ps)) h).1)

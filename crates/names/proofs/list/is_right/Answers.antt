@@ -6,6 +6,10 @@ use native.Mathlib.Omega.{arith}
 use Rattle.names.proofs.Laws.Checks.{wrong-tab, checked-start, wrong-empty, wrong-open, checked-next, checked-end}
 use Rattle.names.proofs.list.is_right.Goals as goal
 
+-- a tab
+pub returns-then-find-list : goal.returns-then-find-list
+returns-then-find-list c = let m = c.find.ensures in wrong-tab _ _ m (omega (arith, m.within))
+
 pub loop-i-init : goal.loop-i-init
 loop-i-init c = checked-start _ _ c.find.ensures (omega arith)
 

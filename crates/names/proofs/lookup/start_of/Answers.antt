@@ -2,11 +2,10 @@
 -- The measure is the number of names that are left. Assumes nothing.
 use Prim.Native.Nat.{◌-◌}
 use native.Mathlib.Omega.{arith}
-use mathlib.Core.Logic.{⊎_elim}
-use borrow.Author.Tests.{leb-true}
 use Rattle.names.proofs.Laws.Places.{reached-step}
 use Rattle.names.proofs.Laws.Notes.{reached_block, reached-last, found-end}
 use Rattle.names.proofs.lookup.start_of.Goals as goal
+use Rattle.names.proofs.lookup.start_of.Goals.{then-i-last+then-last-j, else-i-last}
 
 pub loop-i-preserved : goal.loop-i-preserved
 loop-i-preserved c =
@@ -30,3 +29,12 @@ find-at-requires c =
 pub overflow_add-at : goal.overflow_add-at
 overflow_add-at c =
     omega (arith, c.find-at.ensures.within)
+
+-- where the walk begins
+pub loop-i-init : goal.loop-i-init
+loop-i-init c =
+    elim c.if-i-last.branch [
+      then-i-last+then-last-j w ↦
+        (omega (arith, w.i-is, w.if-last-j.true), reached-last c.requires w.if-last-j.true w.i-is w.at-is)
+    | else-i-last w ↦ (omega (arith, w.i-is), reached_block c.requires w.i-is w.at-is)
+    ]
