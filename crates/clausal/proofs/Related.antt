@@ -184,7 +184,8 @@ module _ {C D : Type 0} (A : Algebra C) (B : Algebra D) (Q : C → D → Type 0)
   related_gather : (x : C) (y : D) {ps : List (Part C)} {qs : List (Part D)} → Q x y → Each (Parts Q) ps qs
       → Q (gather A x ps) (gather B y qs)
   related_gather x y q none = q
-  related_gather x y q (more p e) = related_gather _ _ (keeps.cat _ _ _ _ q p.content) e
+  related_gather x y q (more {x = x'} {y = y'} p e) =
+      related_gather (A.cat x x'.content) (B.cat y y'.content) (keeps.cat _ _ _ _ q p.content) e
 
   -- the whole output
   pub related_whole : Q (whole_of A u ns) (whole_of B u ns)
