@@ -2,19 +2,10 @@
 use Prim.Native.Nat.{◌≤◌}
 use native.Mathlib.Nat.{mul-le-mul}
 use native.Mathlib.Omega.{arith}
-use borrow.Author.Rules.{rules}
-use Rattle.capped.proofs.total.product.Statement.{statement}
-use Rattle.capped.proofs.total.product.Tie as tie
+use Rattle.capped.proofs.total.product.Goals as goal
 
-fits : tie.Need-overflow-mul-result
-fits c =
+pub overflow_mul-result : goal.overflow_mul-result
+overflow_mul-result c =
     let a : c.args.a ≤ 4294967295 = omega arith in
     let b : c.args.b ≤ 4294967295 = omega arith in
     omega (arith, mul-le-mul a b)
-
-pub product_spec : {M : Type 1} → statement M
-product_spec =
-    tie.close
-    (tie.spec
-    fits
-    (λ c. search rules))

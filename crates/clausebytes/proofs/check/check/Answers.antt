@@ -1,0 +1,54 @@
+-- `clausebytes::check::check` meets its contract: each word is looked at once; the first fault decides, and without one all is counted.
+-- Assumes nothing.
+use mathlib.Core.Path.{refl, subst}
+use mathlib.Core.List.{List, [], ◌∷◌}
+use mathlib.Core.Logic.{⊎_elim}
+use Prim.Native.Nat.{ℕ, ◌+◌, ◌-◌}
+use native.Mathlib.Omega.{arith}
+use lib.ListN.{drop}
+use borrow.Author.Tests.{not-true, not-false}
+use Rattle.clausebytes.specs.Words.{words_of}
+use Rattle.clausebytes.proofs.Laws.Words.{words_next, words_end}
+use Rattle.clausebytes.proofs.Laws.Checking.{Checking, checking_start, checking_zero, checking_literal, found-many, found_part}
+use Rattle.clausebytes.proofs.Laws.Checking.{found-clause, found-magnitude, found-literal, found-open, found_right}
+use Rattle.clausebytes.proofs.check.check.Goals as goal
+
+-- a clause too many, a magnitude over the variables, a literal too many
+pub returns-then-clauses-ge-MOST_CLAUSES : goal.returns-then-clauses-ge-MOST_CLAUSES
+returns-then-clauses-ge-MOST_CLAUSES c =
+    let x = c.args in
+    found-clause x.bytes.now x.variables c.word_at-word.result ((let ahead : let l = c.loop-i in let x = c.args in Checking x.variables (words_of x.bytes.now) (c.word_at-word.result ∷ drop (l.i + 1) (words_of x.bytes.now)) l.closed l.clauses l.literals = let l = c.loop-i in let x = c.args in subst (λ (r : List ℕ). Checking x.variables (words_of x.bytes.now) r l.closed l.clauses l.literals) (words_next x.bytes.now l.i c.word_at-word.result (omega arith) c.word_at-word.ensures) l.invariant.4 in ahead)) c.if-word-eq0.true c.if-clauses-ge-MOST_CLAUSES.true
+
+pub returns-then-magnitude-variables : goal.returns-then-magnitude-variables
+returns-then-magnitude-variables c =
+    let x = c.args in
+    found-magnitude x.bytes.now x.variables c.word_at-word.result ((let ahead : let l = c.loop-i in let x = c.args in Checking x.variables (words_of x.bytes.now) (c.word_at-word.result ∷ drop (l.i + 1) (words_of x.bytes.now)) l.closed l.clauses l.literals = let l = c.loop-i in let x = c.args in subst (λ (r : List ℕ). Checking x.variables (words_of x.bytes.now) r l.closed l.clauses l.literals) (words_next x.bytes.now l.i c.word_at-word.result (omega arith) c.word_at-word.ensures) l.invariant.4 in ahead))
+    (rw c.magnitude.ensures at c.if-magnitude-variables.true)
+
+pub returns-then-literals-ge-MOST_LITERALS : goal.returns-then-literals-ge-MOST_LITERALS
+returns-then-literals-ge-MOST_LITERALS c =
+    let x = c.args in
+    found-literal x.bytes.now x.variables c.word_at-word.result ((let ahead : let l = c.loop-i in let x = c.args in Checking x.variables (words_of x.bytes.now) (c.word_at-word.result ∷ drop (l.i + 1) (words_of x.bytes.now)) l.closed l.clauses l.literals = let l = c.loop-i in let x = c.args in subst (λ (r : List ℕ). Checking x.variables (words_of x.bytes.now) r l.closed l.clauses l.literals) (words_next x.bytes.now l.i c.word_at-word.result (omega arith) c.word_at-word.ensures) l.invariant.4 in ahead)) c.if-word-eq0.false c.if-literals-ge-MOST_LITERALS.true
+
+pub returns-then-not-closed : goal.returns-then-not-closed
+returns-then-not-closed c =
+    let x = c.args in
+    found-open x.bytes.now x.variables ((let ended : let l = c.loop-i in let x = c.args in Checking x.variables (words_of x.bytes.now) [] l.closed l.clauses l.literals = let l = c.loop-i in let x = c.args in subst (λ (r : List ℕ). Checking x.variables (words_of x.bytes.now) r l.closed l.clauses l.literals) (words_end x.bytes.now l.i c.loop-i-test.false) l.invariant.4 in ended)) (not-true _ c.if-not-closed.true-raw)
+
+pub returns : goal.returns
+returns c =
+    let l = c.loop-i in
+    let x = c.args in
+    found_right x.bytes.now x.variables ((let ended : let l = c.loop-i in let x = c.args in Checking x.variables (words_of x.bytes.now) [] l.closed l.clauses l.literals = let l = c.loop-i in let x = c.args in subst (λ (r : List ℕ). Checking x.variables (words_of x.bytes.now) r l.closed l.clauses l.literals) (words_end x.bytes.now l.i c.loop-i-test.false) l.invariant.4 in ended)) l.invariant.2 l.invariant.1 (not-false _ c.if-not-closed.false-raw)
+
+pub returns-then-variables-gt-MOST_VARIABLES : goal.returns-then-variables-gt-MOST_VARIABLES
+returns-then-variables-gt-MOST_VARIABLES c =
+    let x = c.args in found-many x.bytes.now x.variables c.if-variables-gt-MOST_VARIABLES.true
+
+pub returns-then-bytes-ne0 : goal.returns-then-bytes-ne0
+returns-then-bytes-ne0 c =
+    let x = c.args in found_part x.bytes.now x.variables c.if-bytes-ne0.true
+
+pub loop-i-init : goal.loop-i-init
+loop-i-init c =
+    (omega arith, c.if-variables-gt-MOST_VARIABLES.false, c.if-bytes-ne0.false, omega arith, checking_start _ _)
