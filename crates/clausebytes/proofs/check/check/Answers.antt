@@ -12,6 +12,7 @@ use Rattle.clausebytes.proofs.Laws.Words.{words_next, words_end}
 use Rattle.clausebytes.proofs.Laws.Checking.{Checking, checking_start, checking_zero, checking_literal, found-many, found_part}
 use Rattle.clausebytes.proofs.Laws.Checking.{found-clause, found-magnitude, found-literal, found-open, found_right}
 use Rattle.clausebytes.proofs.check.check.Goals as goal
+use Rattle.clausebytes.proofs.check.check.Goals.{else-word-eq0+else-magnitude-variables+else-literals-ge-MOST_LITERALS, then-word-eq0+else-clauses-ge-MOST_CLAUSES}
 
 -- a clause too many, a magnitude over the variables, a literal too many
 pub returns-then-clauses-ge-MOST_CLAUSES : goal.returns-then-clauses-ge-MOST_CLAUSES
@@ -52,3 +53,21 @@ returns-then-bytes-ne0 c =
 pub loop-i-init : goal.loop-i-init
 loop-i-init c =
     (omega arith, c.if-variables-gt-MOST_VARIABLES.false, c.if-bytes-ne0.false, omega arith, checking_start _ _)
+
+-- the word is counted: a zero, or a literal
+pub loop-i-preserved : goal.loop-i-preserved
+loop-i-preserved c =
+    let l = c.loop-i in
+    let x = c.args in (
+      refl,
+      l.invariant.1,
+      l.invariant.2,
+      omega arith,
+      elim c.if-word-eq0.branch [
+      then-word-eq0+else-clauses-ge-MOST_CLAUSES w ↦ rw (w.closed-is, w.clauses-is, w.literals-is)
+          (checking_zero x.bytes.now x.variables c.word_at-word.result ((let ahead : let l = c.loop-i in let x = c.args in Checking x.variables (words_of x.bytes.now) (c.word_at-word.result ∷ drop (l.i + 1) (words_of x.bytes.now)) l.closed l.clauses l.literals = let l = c.loop-i in let x = c.args in subst (λ (r : List ℕ). Checking x.variables (words_of x.bytes.now) r l.closed l.clauses l.literals) (words_next x.bytes.now l.i c.word_at-word.result (omega arith) c.word_at-word.ensures) l.invariant.4 in ahead)) w.if-word-eq0.true w.if-clauses-ge-MOST_CLAUSES.false)
+    | else-word-eq0+else-magnitude-variables+else-literals-ge-MOST_LITERALS w ↦ let m = rw w.magnitude.ensures at w.if-magnitude-variables.false in
+          rw (w.closed-is, w.clauses-is, w.literals-is)
+          (checking_literal x.bytes.now x.variables c.word_at-word.result ((let ahead : let l = c.loop-i in let x = c.args in Checking x.variables (words_of x.bytes.now) (c.word_at-word.result ∷ drop (l.i + 1) (words_of x.bytes.now)) l.closed l.clauses l.literals = let l = c.loop-i in let x = c.args in subst (λ (r : List ℕ). Checking x.variables (words_of x.bytes.now) r l.closed l.clauses l.literals) (words_next x.bytes.now l.i c.word_at-word.result (omega arith) c.word_at-word.ensures) l.invariant.4 in ahead)) w.if-word-eq0.false m w.if-literals-ge-MOST_LITERALS.false)
+    ],
+    )
