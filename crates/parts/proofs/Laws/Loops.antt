@@ -10,7 +10,7 @@ use lib.Dec.{eqb}
 use lib.ListN.{length, get_or, take, length-map, length-append}
 use lib.Seq.{take_all}
 use borrow.Author.Tests.{eq-eqb, ne_eqb}
-use denote.Ref.{Bor}
+use denote.Ref.{MutBor}
 use Rattle.marks.specs.Inner.Held.{Marked, held_at}
 use Rattle.marks.specs.Marks.{marks_of, mark_of, halves_of}
 use Rattle.formula.specs.Tables.{node_count, nodes_of}
@@ -38,7 +38,7 @@ module _ (t : List ℕ) (cs ls : List (List ℕ)) (helpers : List ℕ) where
   ns = nodes_of t
 
   -- a part, clause by clause
-  module _ (n : ℕ) (sign : Bool) (r : Bor (List ℕ)) (at : ℕ) where
+  module _ (n : ℕ) (sign : Bool) (r : MutBor (List ℕ)) (at : ℕ) where
     abbrev list : List Clause
     list = own_list name ns n sign
 
@@ -46,7 +46,7 @@ module _ (t : List ℕ) (cs ls : List (List ℕ)) (helpers : List ℕ) where
     show c = around (name n) sign c
 
     -- k clauses are written
-    pub record Writing (count next k : ℕ) (m : Bor (List ℕ)) : Type 0 where
+    pub record Writing (count next k : ℕ) (m : MutBor (List ℕ)) : Type 0 where
       pub due : PartDue t cs ls helpers true n sign r.now at
       pub counted : count ≡ length list
       pub within : k ≤ count
@@ -64,7 +64,7 @@ module _ (t : List ℕ) (cs ls : List (List ℕ)) (helpers : List ℕ) where
       put = put-nothing r at;
     }
 
-    module _ (count next k : ℕ) (m : Bor (List ℕ)) (w : Writing count next k m) where
+    module _ (count next k : ℕ) (m : MutBor (List ℕ)) (w : Writing count next k m) where
       whole : first_of show list (length list) ≡ half name ns true n sign
       whole = ap (map show) (take_all (length list) list (omega arith))
 
@@ -84,7 +84,7 @@ module _ (t : List ℕ) (cs ls : List (List ℕ)) (helpers : List ℕ) where
             (omega (arith, w.counted)) r at fits next m w.put);
       }
 
-      pub writing_step : (to : ℕ) (o : Bor (List ℕ)) → k < count → Put (clause_bytes (show (get_or list k []))) m next to o
+      pub writing_step : (to : ℕ) (o : MutBor (List ℕ)) → k < count → Put (clause_bytes (show (get_or list k []))) m next to o
           → Writing count to (k + 1) o
       writing_step to o h p = record {
         due = w.due;
@@ -104,7 +104,7 @@ module _ (t : List ℕ) (cs ls : List (List ℕ)) (helpers : List ℕ) where
     part_none = put-nothing r at
 
   -- the definition of a node
-  module _ (marks : List ℕ) (n : ℕ) (r : Bor (List ℕ)) (at : ℕ) (d : DefinitionDue t marks cs ls helpers n r.now at) where
+  module _ (marks : List ℕ) (n : ℕ) (r : MutBor (List ℕ)) (at : ℕ) (d : DefinitionDue t marks cs ls helpers n r.now at) where
     pub undefined : name n ≡ 0 → Put (clauses_bytes (defined_by name ns n)) r at at r
     undefined e = put_as (ap clauses_bytes
         (ap (λ (b : Bool). cond b [] (half name ns (halves_of (mark_of ns n)).down n true ++ half name ns
@@ -143,7 +143,7 @@ module _ (t : List ℕ) (cs ls : List (List ℕ)) (helpers : List ℕ) where
         fits = fits-left (clauses_bytes down) (clauses_bytes up) r at both;
       }
 
-      module _ (next : ℕ) (m : Bor (List ℕ)) (p : Put (clauses_bytes down) r at next m) where
+      module _ (next : ℕ) (m : MutBor (List ℕ)) (p : Put (clauses_bytes down) r at next m) where
         pub due_up : PartDue t cs ls helpers h.up n false m.now next
         due_up = record {
           writable = d.writable;
@@ -152,14 +152,14 @@ module _ (t : List ℕ) (cs ls : List (List ℕ)) (helpers : List ℕ) where
           fits = fits-right (clauses_bytes down) (clauses_bytes up) r at both p;
         }
 
-        pub put_defined : (to : ℕ) (o : Bor (List ℕ)) → Put (clauses_bytes up) m next to o
+        pub put_defined : (to : ℕ) (o : MutBor (List ℕ)) → Put (clauses_bytes up) m next to o
             → Put (clauses_bytes (defined_by name ns n)) r at to o
         put_defined to o q = put_as bytes (put_both (clauses_bytes down) (clauses_bytes up) r at both p q)
 
   -- the definitions, node by node
-  module _ (marks : List ℕ) (r : Bor (List ℕ)) (at : ℕ) where
+  module _ (marks : List ℕ) (r : MutBor (List ℕ)) (at : ℕ) where
     -- those of the nodes below i are written
-    pub record Defining (i next : ℕ) (m : Bor (List ℕ)) : Type 0 where
+    pub record Defining (i next : ℕ) (m : MutBor (List ℕ)) : Type 0 where
       pub due : DefinitionsDue t marks cs ls helpers r.now at
       pub within : i ≤ length ns
       pub put : Put (clauses_bytes (defined_to name ns i)) r at next m
@@ -172,7 +172,7 @@ module _ (t : List ℕ) (cs ls : List (List ℕ)) (helpers : List ℕ) where
     unfolding defined_to
     defining_start d = record { due = d; within = omega arith; put = put-nothing r at }
 
-    module _ (i next : ℕ) (m : Bor (List ℕ)) (w : Defining i next m) where
+    module _ (i next : ℕ) (m : MutBor (List ℕ)) (w : Defining i next m) where
       pub defining_next : i < length ns → DefinitionDue t marks cs ls helpers i m.now next
       defining_next h = record {
         writable = w.due.writable;
@@ -182,7 +182,7 @@ module _ (t : List ℕ) (cs ls : List (List ℕ)) (helpers : List ℕ) where
         fits = fits_next (defined_to name ns) (defined_by name ns) (length ns) more i h r at w.due.fits next m w.put;
       }
 
-      pub defining_step : (to : ℕ) (o : Bor (List ℕ)) → i < length ns → Put (clauses_bytes (defined_by name ns i)) m next to o
+      pub defining_step : (to : ℕ) (o : MutBor (List ℕ)) → i < length ns → Put (clauses_bytes (defined_by name ns i)) m next to o
           → Defining (i + 1) to o
       defining_step to o h p = record {
         due = w.due;
@@ -196,7 +196,7 @@ module _ (t : List ℕ) (cs ls : List (List ℕ)) (helpers : List ℕ) where
           put_as (ap (λ (k : ℕ). clauses_bytes (defined_to name ns k)) (sym e)) w.put
 
   -- the output: the root part, then the definitions
-  module _ (marks : List ℕ) (r : Bor (List ℕ)) (d : OutputDue t marks cs ls helpers r.now) where
+  module _ (marks : List ℕ) (r : MutBor (List ℕ)) (d : OutputDue t marks cs ls helpers r.now) where
     abbrev root : List Clause
     root = half name ns true (node_count t - 1) true
 
@@ -223,7 +223,7 @@ module _ (t : List ℕ) (cs ls : List (List ℕ)) (helpers : List ℕ) where
       fits = fits-left (clauses_bytes root) (clauses_bytes rest) r 0 room;
     }
 
-    module _ (next : ℕ) (m : Bor (List ℕ)) (p : Put (clauses_bytes root) r 0 next m) where
+    module _ (next : ℕ) (m : MutBor (List ℕ)) (p : Put (clauses_bytes root) r 0 next m) where
       pub due_rest : DefinitionsDue t marks cs ls helpers m.now next
       due_rest = record {
         writable = d.writable;
@@ -232,5 +232,5 @@ module _ (t : List ℕ) (cs ls : List (List ℕ)) (helpers : List ℕ) where
         fits = fits-right (clauses_bytes root) (clauses_bytes rest) r 0 room p;
       }
 
-      pub put_all : (to : ℕ) (o : Bor (List ℕ)) → Put (clauses_bytes rest) m next to o → Put (clauses_bytes (all_parts name ns)) r 0 to o
+      pub put_all : (to : ℕ) (o : MutBor (List ℕ)) → Put (clauses_bytes rest) m next to o → Put (clauses_bytes (all_parts name ns)) r 0 to o
       put_all to o q = put_as bytes_parts (put_both (clauses_bytes root) (clauses_bytes rest) r 0 room p q)
