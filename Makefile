@@ -44,16 +44,11 @@ $(archive): $(crates)
 $(object): $(crates) | $(archive)
 	@$(prove) program
 
-# The archive is for x86-64. For another machine the proved module is compiled once more.
+# The archive is for x86-64. For another machine the proved crate is built once more.
 $(library): $(archive) tools/native-object
 	mkdir -p $(out)
 	rm -f $@
-ifeq ($(shell uname -m),x86_64)
-	cp $(archive) $@
-else
-	tools/native-object host $(out)/simbolufa.o
-	$(AR) rcs $@ $(out)/simbolufa.o
-endif
+	tools/native-object host $@
 
 # The command is the proved program, compiled for this machine, between the command's own main, read and write.
 $(command): $(object) command/command.c command/words.h $(headers) tools/native-object
