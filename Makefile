@@ -21,13 +21,13 @@ package := lib/cmake/Simbolufa
 installed := bin/simbolufa bin/nightly $(headers) lib/libsimbolufa.a lib/pkgconfig/simbolufa.pc \
     $(package)/SimbolufaConfig.cmake $(package)/SimbolufaConfigVersion.cmake \
     $(addprefix share/doc/simbolufa/,$(notdir $(pages)))
-# Folders too: a file that is taken away changes its folder.
-crates := crates.txt $(shell find crates)
+# Folders too: a file that is taken away changes its folder. What rt makes of a crate stands beside these.
+crates := crates.txt $(shell find crates/*/src crates/*/specs crates/*/proofs 2>/dev/null)
 # Recipes have these from the environment: a path may have a space, or what make or the shell would read.
 export PREFIX
 export root := $(DESTDIR)$(PREFIX)
-# One rt at a time. The lock is that of ./simbolufa.
-rt := command -v rt >/dev/null || { echo 'rt is missing. README.md says where it comes from' >&2; exit 1; }; flock crates.txt rt
+# One build at a time. The lock is that of ./simbolufa.
+prove := flock crates.txt tools/prove
 
 # Whether a program can be built with CaDiCaL.
 has_cadical = printf '\043include <cadical.hpp>\nint main() { CaDiCaL::Solver one; }\n' | \
@@ -39,24 +39,16 @@ all: $(library) $(command)
 
 # Proves what has changed.
 $(archive): $(crates)
-	@$(rt) staticlib host
+	@$(prove) archive
 
-# rt goes by its stamp, and does not write the object again where no crate has changed. A crate that is changed meanwhile is
-# newer than it.
 $(object): $(crates) | $(archive)
-	@[ -f $@ ] || rm -f target/stamp/simbolufa
-	@began=$$(date +%s.%N) && { $(rt) check simbolufa; } && touch -c -d "@$$began" $@
+	@$(prove) program
 
-# The archive is for x86-64. For another machine the proved module is compiled once more.
+# The archive is for x86-64. For another machine the proved crate is built once more.
 $(library): $(archive) tools/native-object
 	mkdir -p $(out)
 	rm -f $@
-ifeq ($(shell uname -m),x86_64)
-	cp $(archive) $@
-else
-	tools/native-object host $(out)/simbolufa.o
-	$(AR) rcs $@ $(out)/simbolufa.o
-endif
+	tools/native-object host $@
 
 # The command is the proved program, compiled for this machine, between the command's own main, read and write.
 $(command): $(object) command/command.c command/words.h $(headers) tools/native-object

@@ -2,7 +2,9 @@
 //! texts have as many literals, clauses and variables as a text may have. The short ones are those that the library
 //! writes for real guards.
 //!
-//! It is given a folder of guards, and a file where it leaves the long text for other readers.
+//! It is given a folder of guards, and a file where it leaves the long text for other readers. It is compiled with the
+//! cfg `old` where there is an old build. Without one, nothing is told of it.
+#![allow(unknown_lints, unexpected_cfgs)]
 
 mod library;
 mod pass;
@@ -19,6 +21,7 @@ use texts::{
 };
 use timing::{keep, rate, ratio, ROUNDS};
 
+#[cfg(old)]
 extern "C" {
     /// The old build's entry. Its symbols are renamed.
     fn old_simbolufa_read_dimacs(
@@ -32,6 +35,7 @@ extern "C" {
 }
 
 /// Variables and clauses. No two of the buffers overlap.
+#[cfg(old)]
 fn read_by_old(text: &[u8], clauses: &mut [u8]) -> [u32; 2] {
     library::accepted(|answer, answer_len| unsafe {
         old_simbolufa_read_dimacs(
@@ -43,6 +47,21 @@ fn read_by_old(text: &[u8], clauses: &mut [u8]) -> [u32; 2] {
             answer_len,
         )
     })
+}
+
+/// The library stands in, and its time is not told.
+#[cfg(not(old))]
+fn read_by_old(text: &[u8], clauses: &mut [u8]) -> [u32; 2] {
+    library::read_dimacs(text, clauses)
+}
+
+/// What is told of the old build.
+fn told(value: f64) -> String {
+    if cfg!(old) {
+        format!("{value:.2}")
+    } else {
+        "-".into()
+    }
 }
 
 /// The text that the library writes for a guard.
@@ -93,11 +112,11 @@ fn measure(name: &str, texts: &[Vec<u8>]) -> [Duration; 3] {
     let bytes = texts.iter().map(Vec::len).sum();
     let [old, new, reference] = times;
     println!(
-        "  {name:24}  {bytes:8}  {:8.1}  {:8.1}  {:9.1}  {:13.2}  {:16.2}",
-        rate(bytes, old),
+        "  {name:24}  {bytes:8}  {:>8}  {:8.1}  {:9.1}  {:>13}  {:16.2}",
+        told(rate(bytes, old)),
         rate(bytes, new),
         rate(bytes, reference),
-        ratio(old, new),
+        told(ratio(old, new)),
         ratio(new, reference)
     );
     times
@@ -134,8 +153,8 @@ fn main() {
     let [old, new, reference] = measure(&name, &short);
     let each = |time: Duration| time.as_secs_f64() * 1e9 / short.len() as f64;
     println!(
-        "  nanoseconds a text of guards: old {:.0}, new {:.0}, reference {:.0}",
-        each(old),
+        "  nanoseconds a text of guards: old {}, new {:.0}, reference {:.0}",
+        told(each(old)),
         each(new),
         each(reference)
     );

@@ -4,7 +4,7 @@
  *
  * The program is linked with --wrap for main, read and write: its main is __real_main here, and its reads and writes come
  * through __wrap_read and __wrap_write. So a read or a write that fails is known, a refusal is seen, and the node file is
- * there to be looked at again.
+ * there to be looked at again. It asks for the last error by rattle_errno, which stands in the kit's C code otherwise.
  */
 #define _POSIX_C_SOURCE 200809L
 
@@ -28,6 +28,10 @@ ssize_t __real_write(int descriptor, const void *from, size_t length);
 int __wrap_main(int count, char **words);
 ssize_t __wrap_read(int descriptor, void *to, size_t length);
 ssize_t __wrap_write(int descriptor, const void *from, size_t length);
+int32_t rattle_errno(void);
+
+/* What a broken pipe does, before the program says that it is an error. */
+static struct sigaction broken_pipe;
 
 /* The number of a read or a write that failed, or 0. */
 static int read_error = 0;
@@ -43,6 +47,11 @@ static const char refused[] = "refused\t";
 /* What was printed first. A refusal is shorter, and a zero stands behind it. */
 static char printed[64];
 static size_t printed_length = 0;
+
+int32_t rattle_errno(void)
+{
+    return errno;
+}
 
 static int stop(const char *form, ...)
 {
@@ -80,9 +89,10 @@ ssize_t __wrap_read(int descriptor, void *to, size_t length)
 ssize_t __wrap_write(int descriptor, const void *from, size_t length)
 {
     ssize_t count;
-    /* What the program makes of a part of a file is not printed. */
-    if (read_error != 0)
+    /* The program says in its own words that a read or a write failed. That is told below. */
+    if (read_error != 0 || write_error != 0)
         return (ssize_t)length;
+    sigaction(SIGPIPE, &broken_pipe, NULL);
     do
         count = __real_write(descriptor, from, length);
     while (count < 0 && errno == EINTR);
@@ -146,16 +156,21 @@ static void explain(const char *path)
 
 static int convert(const char *path)
 {
+    int status;
     /* A closed standard input is an empty one, as for ./simbolufa. */
     if (fcntl(STDIN_FILENO, F_GETFD) < 0)
         open("/dev/null", O_RDONLY);
     if (path != NULL && !take_file(path))
         return NOTHING_CONVERTED;
-    __real_main();
+    sigaction(SIGPIPE, NULL, &broken_pipe);
+    status = __real_main();
+    sigaction(SIGPIPE, &broken_pipe, NULL);
     if (read_error != 0)
         return stop("%s cannot be read: %s", path != NULL ? path : "standard input", strerror(read_error));
     if (write_error != 0)
         return stop("standard output was not written: %s", strerror(write_error));
+    if (status != 0)
+        return NOTHING_CONVERTED;
     if (strncmp(printed, refused, sizeof refused - 1) != 0)
         return CONVERTED;
     explain(path);

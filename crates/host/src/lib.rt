@@ -1,5 +1,6 @@
 // The entries that a host calls, and nothing else. Each looks first at its answer part.
 #![tactic(auto)]
+
 ghost use Rattle.std.specs.Prelude.{◌≡◌, ℕ, ◌<◌, get_or};
 ghost use Rattle.answer.specs.Answers.{only, leaves};
 ghost use Rattle.formula.specs.Checks.{checked};
@@ -13,11 +14,10 @@ ghost use Rattle.tidied.specs.Calls.{tidy_call};
 use answer::{give, is_part_wrong};
 
 // Checks a formula table for a project of `options` options.
-#[unsafe(no_mangle)]
-pub extern "C" fn simbolufa_check(table: &[u8], options: u32, answer: &mut [u8]) -> u32
-    ensures* { λ r. ⌜ record { result = r; output = tt; part = answer.new }
+pub fn simbolufa_check(table: &[u8], options: u32, answer: &mut [u8]) -> u32
+    ensures { record { result = result; output = tt; part = answer.new }
         ≡ leaves answer.old tt
-        (only (checked table.now options)) ⌝ }
+        (only (checked table.now options)) }
 {
     if is_part_wrong(answer) {
         return 11;
@@ -26,16 +26,10 @@ pub extern "C" fn simbolufa_check(table: &[u8], options: u32, answer: &mut [u8])
 }
 
 // Checks a table and a set, and gives the clause and the literal total, each read at its ceiling.
-#[unsafe(no_mangle)]
-pub extern "C" fn simbolufa_measure(
-    table: &[u8],
-    options: u32,
-    set: &[u8],
-    answer: &mut [u8],
-) -> u32
-    ensures* { λ r. ⌜ record { result = r; output = tt; part = answer.new }
+pub fn simbolufa_measure(table: &[u8], options: u32, set: &[u8], answer: &mut [u8]) -> u32
+    ensures { record { result = result; output = tt; part = answer.new }
         ≡ leaves answer.old tt
-        (only (measured table.now options set.now)) ⌝ }
+        (only (measured table.now options set.now)) }
 {
     if is_part_wrong(answer) {
         return 11;
@@ -44,17 +38,16 @@ pub extern "C" fn simbolufa_measure(
 }
 
 // Checks a table, and writes the set of nodes to rename under an allowance: picks and final total are reported.
-#[unsafe(no_mangle)]
-pub extern "C" fn simbolufa_choose(
+pub fn simbolufa_choose(
     table: &[u8],
     options: u32,
     allowance: u32,
     set: &mut [u8],
     answer: &mut [u8],
 ) -> u32
-    ensures* { λ r. ⌜ record { result = r; output = set.new; part = answer.new }
+    ensures { record { result = result; output = set.new; part = answer.new }
         ≡ leaves answer.old set.old
-        (chosen_by table.now options allowance set.old) ⌝ }
+        (chosen_by table.now options allowance set.old) }
 {
     if is_part_wrong(answer) {
         return 11;
@@ -63,17 +56,16 @@ pub extern "C" fn simbolufa_choose(
 }
 
 // Checks a table and a set, and writes the clauses of the formula under the set: variables and clauses are reported.
-#[unsafe(no_mangle)]
-pub extern "C" fn simbolufa_convert(
+pub fn simbolufa_convert(
     table: &[u8],
     options: u32,
     set: &[u8],
     out: &mut [u8],
     answer: &mut [u8],
 ) -> u32
-    ensures* { λ r. ⌜ record { result = r; output = out.new; part = answer.new }
+    ensures { record { result = result; output = out.new; part = answer.new }
         ≡ leaves answer.old out.old
-        (converted table.now options set.now out.old) ⌝ }
+        (converted table.now options set.now out.old) }
 {
     if is_part_wrong(answer) {
         return 11;
@@ -83,8 +75,7 @@ pub extern "C" fn simbolufa_convert(
 
 // The same for a guard that is solved together with others: `taken` is the last variable that is used already, and helpers come
 // after it.
-#[unsafe(no_mangle)]
-pub extern "C" fn simbolufa_convert_after(
+pub fn simbolufa_convert_after(
     table: &[u8],
     options: u32,
     taken: u32,
@@ -92,9 +83,9 @@ pub extern "C" fn simbolufa_convert_after(
     out: &mut [u8],
     answer: &mut [u8],
 ) -> u32
-    ensures* { λ r. ⌜ record { result = r; output = out.new; part = answer.new }
+    ensures { record { result = result; output = out.new; part = answer.new }
         ≡ leaves answer.old out.old
-        (converted_after table.now options taken set.now out.old) ⌝ }
+        (converted_after table.now options taken set.now out.old) }
 {
     if is_part_wrong(answer) {
         return 11;
@@ -107,8 +98,7 @@ pub extern "C" fn simbolufa_convert_after(
 
 // Checks a table, a set, a clause's number and the names of options and of helpers, and writes the line that tells where the clause
 // comes from: variables and clauses are reported.
-#[unsafe(no_mangle)]
-pub extern "C" fn simbolufa_origin<'a>(
+pub fn simbolufa_origin<'a>(
     table: &[u8],
     options: u32,
     set: &[u8],
@@ -118,10 +108,10 @@ pub extern "C" fn simbolufa_origin<'a>(
     line: &mut [u8],
     answer: &mut [u8],
 ) -> u32
-    ensures* { λ r. ⌜ record { result = r; output = line.new; part = answer.new }
+    ensures { record { result = result; output = line.new; part = answer.new }
         ≡ leaves answer.old line.old
         (origin_call table.now options set.now clause option_names.now helper_names.now
-        line.old) ⌝ }
+        line.old) }
 {
     if is_part_wrong(answer) {
         return 11;
@@ -141,8 +131,7 @@ pub extern "C" fn simbolufa_origin<'a>(
 }
 
 // The same for all clauses, one line after the other.
-#[unsafe(no_mangle)]
-pub extern "C" fn simbolufa_origins<'a>(
+pub fn simbolufa_origins<'a>(
     table: &[u8],
     options: u32,
     set: &[u8],
@@ -151,10 +140,10 @@ pub extern "C" fn simbolufa_origins<'a>(
     lines: &mut [u8],
     answer: &mut [u8],
 ) -> u32
-    ensures* { λ r. ⌜ record { result = r; output = lines.new; part = answer.new }
+    ensures { record { result = result; output = lines.new; part = answer.new }
         ≡ leaves answer.old lines.old
         (origins_call table.now options set.now option_names.now helper_names.now
-        lines.old) ⌝ }
+        lines.old) }
 {
     if is_part_wrong(answer) {
         return 11;
@@ -167,17 +156,16 @@ pub extern "C" fn simbolufa_origins<'a>(
 
 // Writes clause bytes as DIMACS text with `variables` declared: variables and clauses are reported. That a lent byte is below 256 is
 // said too: the round trip asks it.
-#[unsafe(no_mangle)]
-pub extern "C" fn simbolufa_write_dimacs(
+pub fn simbolufa_write_dimacs(
     clauses: &[u8],
     variables: u32,
     text: &mut [u8],
     answer: &mut [u8],
 ) -> u32
-    ensures* { λ r. ⌜ (record { result = r; output = text.new; part = answer.new }
+    ensures settled { record { result = result; output = text.new; part = answer.new }
         ≡ leaves answer.old text.old
-        (write_call clauses.now variables text.old))
-        × ((i : ℕ) → get_or clauses.now i 0 < 256) ⌝ }
+        (write_call clauses.now variables text.old) }
+    ensures bytes { (i : ℕ) → get_or clauses.now i 0 < 256 }
 {
     if is_part_wrong(answer) {
         return 11;
@@ -186,11 +174,10 @@ pub extern "C" fn simbolufa_write_dimacs(
 }
 
 // Reads DIMACS text as clause bytes: the declared variables and clauses are reported.
-#[unsafe(no_mangle)]
-pub extern "C" fn simbolufa_read_dimacs(text: &[u8], clauses: &mut [u8], answer: &mut [u8]) -> u32
-    ensures* { λ r. ⌜ record { result = r; output = clauses.new; part = answer.new }
+pub fn simbolufa_read_dimacs(text: &[u8], clauses: &mut [u8], answer: &mut [u8]) -> u32
+    ensures { record { result = result; output = clauses.new; part = answer.new }
         ≡ leaves answer.old clauses.old
-        (read_call text.now clauses.old) ⌝ }
+        (read_call text.now clauses.old) }
 {
     if is_part_wrong(answer) {
         return 11;
@@ -199,11 +186,10 @@ pub extern "C" fn simbolufa_read_dimacs(text: &[u8], clauses: &mut [u8], answer:
 }
 
 // Reads a `p sat` text as the table of its formula: the options and the nodes are reported.
-#[unsafe(no_mangle)]
-pub extern "C" fn simbolufa_read_sat(text: &[u8], table: &mut [u8], answer: &mut [u8]) -> u32
-    ensures* { λ r. ⌜ record { result = r; output = table.new; part = answer.new }
+pub fn simbolufa_read_sat(text: &[u8], table: &mut [u8], answer: &mut [u8]) -> u32
+    ensures { record { result = result; output = table.new; part = answer.new }
         ≡ leaves answer.old table.old
-        (satfile.read_call text.now table.old) ⌝ }
+        (satfile.read_call text.now table.old) }
 {
     if is_part_wrong(answer) {
         return 11;
@@ -213,18 +199,17 @@ pub extern "C" fn simbolufa_read_sat(text: &[u8], table: &mut [u8], answer: &mut
 
 // Takes out of clause bytes, with `variables` declared, what changes nothing, and tells what went in lines: the lines and the kept clauses
 // are reported. That a lent byte is below 256 is said too: what is kept can then be written as text.
-#[unsafe(no_mangle)]
-pub extern "C" fn simbolufa_tidy(
+pub fn simbolufa_tidy(
     clauses: &[u8],
     variables: u32,
     out: &mut [u8],
     changes: &mut [u8],
     answer: &mut [u8],
 ) -> u32
-    ensures* { λ r. ⌜ (record { result = r; output = record { kept = out.new; lines = changes.new }; part = answer.new }
+    ensures settled { record { result = result; output = record { kept = out.new; lines = changes.new }; part = answer.new }
         ≡ leaves answer.old (record { kept = out.old; lines = changes.old })
-        (tidy_call clauses.now variables (record { kept = out.old; lines = changes.old })))
-        × ((i : ℕ) → get_or clauses.now i 0 < 256) ⌝ }
+        (tidy_call clauses.now variables (record { kept = out.old; lines = changes.old })) }
+    ensures bytes { (i : ℕ) → get_or clauses.now i 0 < 256 }
 {
     if is_part_wrong(answer) {
         return 11;
