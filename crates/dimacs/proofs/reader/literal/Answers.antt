@@ -1,0 +1,44 @@
+-- `dimacs::reader::literal` meets its contract: by where its digits end. Assumes nothing.
+use mathlib.Core.Path.{◌≡◌, sym, ◌∙◌}
+use mathlib.Core.Bool.{false}
+use native.Mathlib.Omega.{arith}
+use borrow.Author.Tests.{not-true, not-false}
+use Rattle.body.specs.Inner.Table.{is_dead}
+use Rattle.dimacs.specs.Inner.Walks.{dead, end}
+use Rattle.dimacs.proofs.Laws.Tokens.{spelt_begun, spelt_over, spelt_wrong, spelt_white}
+use Rattle.dimacs.proofs.reader.literal.Goals as goal
+
+pub returns-then-not-is_number : goal.returns-then-not-is_number
+returns-then-not-is_number c =
+    spelt_begun c.args.text.now c.args.start c.first-begun.result c.first-begun.ensures
+    (sym c.is_number.ensures ∙ not-true c.is_number.result c.if-not-is_number.true-raw)
+
+pub digits-end-requires : goal.digits-end-requires
+digits-end-requires c =
+    record {
+      table = c.requires.table;
+      place = c.first-begun.ensures.leads.within;
+      number = sym c.is_number.ensures ∙ not-false c.is_number.result c.if-not-is_number.false-raw;
+    }
+
+pub returns-then-is_dead : goal.returns-then-is_dead
+returns-then-is_dead c =
+    spelt_over c.args.text.now c.args.start c.first-begun.result c.digits-end.result c.first-begun.ensures
+    c.digits-end.ensures (dead (sym c.is_dead.ensures ∙ c.if-is_dead.true))
+
+pub returns-then-i-text : goal.returns-then-i-text
+returns-then-i-text c =
+    spelt_over c.args.text.now c.args.start c.first-begun.result c.digits-end.result c.first-begun.ensures
+    c.digits-end.ensures (end c.if-i-text.true)
+
+pub returns-then-not-is_white : goal.returns-then-not-is_white
+returns-then-not-is_white c =
+    spelt_wrong c.args.text.now c.args.start c.first-begun.result c.digits-end.result c.first-begun.ensures
+    c.digits-end.ensures ((let live : is_dead c.digits-end.result.phase ≡ false = sym c.is_dead.ensures ∙ c.if-is_dead.false in live)) (omega (arith, c.if-i-text.false)) c.dead.result
+    (sym c.is_white.ensures ∙ not-true c.is_white.result c.if-not-is_white.true-raw) c.dead.ensures
+
+pub returns : goal.returns
+returns c =
+    spelt_white c.args.text.now c.args.start c.first-begun.result c.digits-end.result c.first-begun.ensures
+    c.digits-end.ensures ((let live : is_dead c.digits-end.result.phase ≡ false = sym c.is_dead.ensures ∙ c.if-is_dead.false in live)) (omega (arith, c.if-i-text.false))
+    (sym c.is_white.ensures ∙ not-false c.is_white.result c.if-not-is_white.false-raw)
