@@ -17,36 +17,101 @@ use Rattle.dimacs.proofs.Laws.Bytes.{digit_no_white}
 use Rattle.dimacs.proofs.Laws.Copies.{Copied, copied_start, copied_length, copied_fits, copied_room, copied_next}
 use Rattle.dimacs.proofs.Laws.Copies.{copied_last, copied_end}
 use Rattle.dimacs.proofs.Laws.Copies.{pen_digit, pen_none, pen_minus, not-ended, ended}
+use Rattle.dimacs.proofs.copier.copy.Goals.{After-is_digit, After-word, After-word-2, At-loop-i, Else-is_digit, Then-is_digit, Then-is_white}
 use Rattle.dimacs.proofs.copier.copy.Goals as goal
 
 -- what comes next, from where the loop is
-module _ (c : goal.At-loop-i goal.the-invariant-loop-i goal.the-decreases-loop-i) where
-  abbrev text : List ℕ
-  text = c.args.text.now
+abbrev text : At-loop-i → List ℕ
+text c = c.args.text.now
 
-  abbrev begin : State
-  begin = start_of c.args.from c.args.variables c.args.declared
+abbrev begin : At-loop-i → State
+begin c = start_of c.args.from c.args.variables c.args.declared
 
-  abbrev pen : Pen
-  pen = c.loop-i.pen
+abbrev pen : At-loop-i → Pen
+pen c = c.loop-i.pen
 
-  abbrev byte : ℕ
-  byte = get_or text c.loop-i.i 0
+abbrev byte : At-loop-i → ℕ
+byte c = get_or (text c) c.loop-i.i 0
 
-  same : length c.loop-i.out ≡ length c.args.out.now
-  same = copied_length text begin c.args.out.now c.requires.room pen c.loop-i.i c.loop-i.at c.loop-i.out
+same : (c : At-loop-i) → length c.loop-i.out ≡ length c.args.out.now
+same c = copied_length (text c) (begin c) c.args.out.now c.requires.room (pen c) c.loop-i.i c.loop-i.at c.loop-i.out
       c.loop-i.invariant
 
-  module _ (h : c.loop-i.i < length text) where
-    room : c.loop-i.at + length (written (ends_word pen byte) (pen_bytes pen)) ≤ length c.loop-i.out
-    room = copied_room text begin c.args.out.now c.requires.room pen c.loop-i.i c.loop-i.at c.loop-i.out
-        c.loop-i.invariant h
+room : (c : At-loop-i) → c.loop-i.i < length (text c) → c.loop-i.at + length (written (ends_word (pen c) (byte c)) (pen_bytes (pen c))) ≤ length c.loop-i.out
+room c = copied_room (text c) (begin c) c.args.out.now c.requires.room (pen c) c.loop-i.i c.loop-i.at c.loop-i.out
+        c.loop-i.invariant
 
-    more : (p : Pen) (n : ℕ) (m : List ℕ) → p ≡ pen_of pen byte
-        → Stored (written (ends_word pen byte) (pen_bytes pen)) c.loop-i.out c.loop-i.at n m
-        → Copied text begin c.args.out.now p (c.loop-i.i + 1) n m
-    more = copied_next text begin c.args.out.now c.requires.room pen c.loop-i.i c.loop-i.at c.loop-i.out
-        c.loop-i.invariant h
+more : (c : At-loop-i) → c.loop-i.i < length (text c) → (p : Pen) (n : ℕ) (m : List ℕ) → p ≡ pen_of (pen c) (byte c)
+        → Stored (written (ends_word (pen c) (byte c)) (pen_bytes (pen c))) c.loop-i.out c.loop-i.at n m
+        → Copied (text c) (begin c) c.args.out.now p (c.loop-i.i + 1) n m
+more c = copied_next (text c) (begin c) c.args.out.now c.requires.room (pen c) c.loop-i.i c.loop-i.at c.loop-i.out
+        c.loop-i.invariant
+
+inside : (c : After-is_digit) → c.loop-i.i < length (text (goal.at.After-is_digit c).At-loop-i)
+inside c = c.loop-i-test.true
+
+-- a digit
+is : (c : Then-is_digit) → is_digit (class_of (byte (goal.at.Then-is_digit c).At-loop-i)) ≡ true
+is c = sym c.is_digit.ensures ∙ c.if-is_digit.true
+
+pub digit-pen-requires : goal.digit-pen-requires
+digit-pen-requires c =
+    copied_fits (text (goal.at.digit-pen-requires c).At-loop-i) (begin (goal.at.digit-pen-requires c).At-loop-i) c.args.out.now c.requires.room (pen (goal.at.digit-pen-requires c).At-loop-i) c.loop-i.i c.loop-i.at c.loop-i.out
+    c.loop-i.invariant
+    (inside (goal.at.digit-pen-requires c).After-is_digit) c.ranges.variables.fits (is c)
+
+pub loop-i-preserved-then-is_digit : goal.loop-i-preserved-then-is_digit
+loop-i-preserved-then-is_digit c =
+    more (goal.at.loop-i-preserved-then-is_digit c).At-loop-i (inside (goal.at.loop-i-preserved-then-is_digit c).After-is_digit) c.digit-pen.result c.loop-i.at c.loop-i.out
+    (c.digit-pen.ensures ∙ sym (pen_digit (pen (goal.at.loop-i-preserved-then-is_digit c).At-loop-i) (byte (goal.at.loop-i-preserved-then-is_digit c).At-loop-i) (is (goal.at.loop-i-preserved-then-is_digit c).Then-is_digit)))
+    (not-ended (pen (goal.at.loop-i-preserved-then-is_digit c).At-loop-i) (byte (goal.at.loop-i-preserved-then-is_digit c).At-loop-i) c.loop-i.out c.loop-i.at (digit_no_white (class_of (byte (goal.at.loop-i-preserved-then-is_digit c).At-loop-i)) (is (goal.at.loop-i-preserved-then-is_digit c).Then-is_digit)))
+
+-- white space
+no_digit : (c : Else-is_digit) → is_digit (class_of (byte (goal.at.Else-is_digit c).At-loop-i)) ≡ false
+no_digit c = sym c.is_digit.ensures ∙ c.if-is_digit.false
+
+white : (c : Then-is_white) → is_white (class_of (byte (goal.at.Then-is_white c).At-loop-i)) ≡ true
+white c = sym c.is_white.ensures ∙ c.if-is_white.true
+
+word_bytes : (c : After-word) → written (ends_word (pen (goal.at.After-word c).At-loop-i) (byte (goal.at.After-word c).At-loop-i)) (pen_bytes (pen (goal.at.After-word c).At-loop-i)) ≡ written (pen (goal.at.After-word c).At-loop-i).begun (little 4 c.word.result)
+word_bytes c =
+    ended (pen (goal.at.After-word c).At-loop-i) (byte (goal.at.After-word c).At-loop-i) c.word.result (white (goal.at.After-word c).Then-is_white) c.word.ensures
+
+pub put_word-at-requires : goal.put_word-at-requires
+put_word-at-requires c =
+    subst (λ (xs : List ℕ). c.loop-i.at + length xs ≤ length c.loop-i.out) (word_bytes c) (room (goal.at.put_word-at-requires c).At-loop-i (inside (goal.at.put_word-at-requires c).After-is_digit))
+
+pub loop-i-preserved-then-is_white : goal.loop-i-preserved-then-is_white
+loop-i-preserved-then-is_white c =
+    more (goal.at.loop-i-preserved-then-is_white c).At-loop-i (inside (goal.at.loop-i-preserved-then-is_white c).After-is_digit) c.start-pen-then-is_white.result c.put_word-at.result c.put_word-at.new.out
+    (c.start-pen-then-is_white.ensures ∙ sym (pen_none (pen (goal.at.loop-i-preserved-then-is_white c).At-loop-i) (byte (goal.at.loop-i-preserved-then-is_white c).At-loop-i) (no_digit (goal.at.loop-i-preserved-then-is_white c).Else-is_digit) (white (goal.at.loop-i-preserved-then-is_white c).Then-is_white)))
+    (stored_as (word_bytes (goal.at.loop-i-preserved-then-is_white c).After-word) c.put_word-at.ensures)
+
+-- a `-`
+pub loop-i-preserved : goal.loop-i-preserved
+loop-i-preserved c =
+    let w = sym c.is_white.ensures ∙ c.if-is_white.false in
+    more (goal.at.loop-i-preserved c).At-loop-i (inside (goal.at.loop-i-preserved c).After-is_digit) c.minus-pen.result c.loop-i.at c.loop-i.out
+    (c.minus-pen.ensures ∙ sym (pen_minus (pen (goal.at.loop-i-preserved c).At-loop-i) (byte (goal.at.loop-i-preserved c).At-loop-i) (no_digit (goal.at.loop-i-preserved c).Else-is_digit) w))
+    (not-ended (pen (goal.at.loop-i-preserved c).At-loop-i) (byte (goal.at.loop-i-preserved c).At-loop-i) c.loop-i.out c.loop-i.at w)
+
+last-room : (c : After-word-2) → c.loop-i.at + length (written (pen (goal.at.After-word-2 c).At-loop-i).begun (little 4 c.word-2.result)) ≤ length c.loop-i.out
+last-room c =
+    subst (λ (xs : List ℕ). c.loop-i.at + length (written (pen (goal.at.After-word-2 c).At-loop-i).begun xs) ≤ length c.loop-i.out) (sym c.word-2.ensures)
+    (copied_last (text (goal.at.After-word-2 c).At-loop-i) (begin (goal.at.After-word-2 c).At-loop-i) c.args.out.now c.requires.room (pen (goal.at.After-word-2 c).At-loop-i) c.loop-i.i c.loop-i.at c.loop-i.out
+    c.loop-i.invariant
+    c.loop-i-test.false)
+
+pub shape_of-out : goal.shape_of-out
+shape_of-out c =
+    stored-length (last-room (goal.at.shape_of-out c).After-word-2) c.put_word.ensures ∙ same (goal.at.shape_of-out c).At-loop-i
+
+pub returns : goal.returns
+returns c =
+    copied_end (text (goal.at.returns c).At-loop-i) (begin (goal.at.returns c).At-loop-i) c.args.out.now c.requires.room (pen (goal.at.returns c).At-loop-i) c.loop-i.i c.loop-i.at c.loop-i.out
+    c.loop-i.invariant
+    c.loop-i-test.false c.put_word.result c.put_word.new.out
+    (stored_as (ap (written (pen (goal.at.returns c).At-loop-i).begun) (sym c.word-2.ensures)) c.put_word.ensures)
 
 pub loop-i-init : goal.loop-i-init
 loop-i-init c =
@@ -64,3 +129,7 @@ is_digit-requires c =
 pub is_white-requires : goal.is_white-requires
 is_white-requires c =
     c.requires.table
+
+pub put_word-requires : goal.put_word-requires
+put_word-requires c =
+    last-room c

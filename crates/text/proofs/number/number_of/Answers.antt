@@ -8,6 +8,11 @@ use lib.ListN.{get_or}
 use Rattle.text.specs.Inner.Numbers.{grown_of}
 use Rattle.text.proofs.Laws.Fields.{reading_none, reading_start, reading_no_digit, reading_over, reading_more, reading_end}
 use Rattle.text.proofs.number.number_of.Goals as goal
+use Rattle.text.proofs.number.number_of.Goals.{After-grown}
+
+-- the digit that is taken in
+taken : (c : After-grown) → c.grown.result ≡ grown_of (ltb 0 c.loop-i.i) c.loop-i.value (get_or c.args.bytes.now c.loop-i.i 0 - 48) c.args.most
+taken c = c.grown.ensures ∙ ap (λ (d : ℕ). grown_of (ltb 0 c.loop-i.i) c.loop-i.value d c.args.most) c.digit_of.ensures
 
 -- no digit
 pub returns-then-not-is_digit : goal.returns-then-not-is_digit
@@ -17,13 +22,13 @@ returns-then-not-is_digit c =
 -- a leading zero, or over the limit
 pub returns-in_default : goal.returns-in_default
 returns-in_default c =
-    reading_over c.loop-i.invariant.1 c.loop-i-test.true (sym ((let taken : let l = c.loop-i in let x = c.args in c.grown.result ≡ grown_of (ltb 0 l.i) l.value (get_or x.bytes.now l.i 0 - 48) x.most = let l = c.loop-i in let x = c.args in c.grown.ensures ∙ ap (λ (d : ℕ). grown_of (ltb 0 l.i) l.value d x.most) c.digit_of.ensures in taken)) ∙ c.in_default.is)
+    reading_over c.loop-i.invariant.1 c.loop-i-test.true (sym (taken (goal.at.returns-in_default c).After-grown) ∙ c.in_default.is)
 
 pub loop-i-preserved : goal.loop-i-preserved
 loop-i-preserved c =
     let l = c.loop-i in
     let is = sym c.is_digit.ensures ∙ not-false _ c.if-not-is_digit.false-raw in
-    (l.invariant.0, reading_more l.invariant.1 c.loop-i-test.true _ is (sym ((let taken : let l = c.loop-i in let x = c.args in c.grown.result ≡ grown_of (ltb 0 l.i) l.value (get_or x.bytes.now l.i 0 - 48) x.most = let l = c.loop-i in let x = c.args in c.grown.ensures ∙ ap (λ (d : ℕ). grown_of (ltb 0 l.i) l.value d x.most) c.digit_of.ensures in taken)) ∙ c.in-Is.is))
+    (l.invariant.0, reading_more l.invariant.1 c.loop-i-test.true _ is (sym (taken (goal.at.loop-i-preserved c).After-grown) ∙ c.in-Is.is))
 
 pub returns : goal.returns
 returns c =

@@ -1,0 +1,57 @@
+-- `satfile::lead::digits` meets its contract: digits are taken in one by one. The invariant: what is left, behind the digits so far, is
+-- read as the whole is. Assumes nothing.
+use mathlib.Core.Path.{◌≡◌, refl, sym, ap, ◌∙◌}
+use mathlib.Core.Bool.{true}
+use Prim.Native.Nat.{ℕ, ◌-◌}
+use native.Mathlib.Omega.{arith}
+use borrow.Author.Tests.{not-true, not-false}
+use lib.ListN.{get_or}
+use Rattle.text.specs.Inner.Numbers.{is_digit, grown_of}
+use Rattle.satfile.proofs.Laws.Rests.{digits-end, digits_stop, digits_on, digits-wrong}
+use Rattle.satfile.proofs.lead.digits.Goals as goal
+
+pub returns-then-not-is_digit : goal.returns-then-not-is_digit
+returns-then-not-is_digit c =
+    let a = c.args in
+    record {
+      out =
+          sym c.loop-i.invariant.2
+          ∙ digits_stop a.text.now c.loop-i.i a.most c.loop-i.value c.loop-i-test.true
+          (sym c.is_digit.ensures ∙ not-true c.is_digit.result c.if-not-is_digit.true-raw);
+      onward = c.loop-i.invariant.0;
+      within = c.loop-i.invariant.1;
+    }
+
+pub returns-in_default : goal.returns-in_default
+returns-in_default c =
+    let a = c.args in
+    record {
+      out =
+          sym c.loop-i.invariant.2
+          ∙ digits-wrong a.text.now c.loop-i.i a.most c.loop-i.value c.loop-i-test.true
+          ((let is_one : is_digit ((let byte_of : ℕ = get_or c.args.text.now c.loop-i.i 0 in byte_of)) ≡ true = sym c.is_digit.ensures ∙ not-false c.is_digit.result c.if-not-is_digit.false-raw in is_one)) ((let grew : grown_of true c.loop-i.value ((let byte_of : ℕ = get_or c.args.text.now c.loop-i.i 0 in byte_of) - 48) c.args.most ≡ c.grown.result = ap (λ (x : ℕ). grown_of true c.loop-i.value x c.args.most) (sym c.digit_of.ensures) ∙ sym c.grown.ensures in grew) ∙ c.in_default.is);
+      within = c.loop-i.invariant.1;
+    }
+
+pub loop-i-preserved : goal.loop-i-preserved
+loop-i-preserved c =
+    let a = c.args in (
+      omega (arith, c.loop-i.invariant.0),
+      omega (arith, c.loop-i-test.true),
+      sym (digits_on a.text.now c.loop-i.i a.most c.loop-i.value c.loop-i-test.true c.in-Is.more
+          ((let is_one : is_digit ((let byte_of : ℕ = get_or c.args.text.now c.loop-i.i 0 in byte_of)) ≡ true = sym c.is_digit.ensures ∙ not-false c.is_digit.result c.if-not-is_digit.false-raw in is_one)) ((let grew : grown_of true c.loop-i.value ((let byte_of : ℕ = get_or c.args.text.now c.loop-i.i 0 in byte_of) - 48) c.args.most ≡ c.grown.result = ap (λ (x : ℕ). grown_of true c.loop-i.value x c.args.most) (sym c.digit_of.ensures) ∙ sym c.grown.ensures in grew) ∙ c.in-Is.is))
+          ∙ c.loop-i.invariant.2,
+    )
+
+pub returns : goal.returns
+returns c =
+    let a = c.args in
+    record {
+      out = sym c.loop-i.invariant.2 ∙ digits-end a.text.now c.loop-i.i a.most c.loop-i.value c.loop-i-test.false;
+      onward = c.loop-i.invariant.0;
+      within = c.loop-i.invariant.1;
+    }
+
+pub loop-i-init : goal.loop-i-init
+loop-i-init c =
+    (omega arith, c.requires, refl)
