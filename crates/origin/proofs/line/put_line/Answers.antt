@@ -9,14 +9,9 @@ put_clause-names-requires c =
     a.option_notes.now a.helper_notes.now a.out.now a.options a.spot a.pen c.requires a.k _ _
     c.put_source-source.ensures
 
-spoken : goal.returns
-spoken c =
-    let end = c.before.before in
-    let names = end.before.before.before.before.before in
-    let source = names.before.before.before.before.before.before in
-    let toward-start = source.before.before.before.before in
-    let start = toward-start.before.before in
-    let a = start.args in
+pub returns : goal.returns
+returns c =
+    let a = c.args in
     line_spoken a.table.now.now a.clauses.now a.literals.now a.helpers.now a.option_names.now a.helper_names.now
-    a.option_notes.now a.helper_notes.now a.out.now a.options a.spot a.pen start.requires a.k _ _
-    source.put_source.ensures _ _ _ _ _ _ names.put_clause.ensures end.put.ensures
+    a.option_notes.now a.helper_notes.now a.out.now a.options a.spot a.pen c.requires a.k _ _
+    c.put_source-source.ensures _ _ _ _ _ _ c.put_clause-names.ensures c.put.ensures
