@@ -13,7 +13,13 @@ use Rattle.nodefile.proofs.Laws.Files.{standing-start, options-standing, refused
 use Rattle.nodefile.proofs.Laws.Files.{node-standing, node_record_lem, node-few, collected_start, collected_more}
 use Rattle.nodefile.proofs.Laws.Files.{length_records}
 use Rattle.nodefile.proofs.Laws.Answers.{file-long, file-refused, file-no-room, file-stored}
+use Rattle.nodefile.proofs.read.Goals.{After-loop-at, At-loop-at, In-Right-node_at}
 use Rattle.nodefile.proofs.read.Goals as goal
+
+-- the text is not too long
+short-of : (c : At-loop-at) → length c.args.text.now ≤ most_bytes
+short-of c =
+    c.if-text-gt-MOST_BYTES.false
 
 -- the option line is wrong or missing
 pub returns-in_default : goal.returns-in_default
@@ -41,21 +47,64 @@ returns-in_default-node_at c =
     let wrong = subst (NodeFound text l.at l.nodes) c.in_default-node_at.is c.node_at.ensures in
     let refused = refused-here text l.invariant.3 (node_test l.nodes) (node-tested text l.nodes) wrong
     (λ h. c.loop-at-test.true) in
-    file-refused text x.table.now ((let short-of : length c.args.text.now ≤ most_bytes = c.if-text-gt-MOST_BYTES.false in short-of)) refused (l.nodes + 2) (omega arith)
+    file-refused text x.table.now (short-of (goal.at.returns-in_default-node_at c).At-loop-at) refused (l.nodes + 2) (omega arith)
+
+-- the node of a line
+node-found : (c : In-Right-node_at)
+    →
+    let l = c.loop-at in
+    NodeIs c.args.text.now l.at l.nodes c.in-Right-node_at.kind c.in-Right-node_at.a c.in-Right-node_at.b c.in-Right-node_at.behind
+node-found c =
+    let l = c.loop-at in
+    subst (NodeFound c.args.text.now l.at l.nodes) c.in-Right-node_at.is c.node_at.ensures
+
+-- there are few enough
+few : (c : In-Right-node_at) → c.loop-at.nodes < most_nodes
+few c =
+    node-few c.args.text.now c.loop-at.invariant.3 (node-found c)
+
+-- the array has its size
+sized : (c : In-Right-node_at)
+    → length c.loop-at.bytes ≡ node_bytes * most_nodes
+sized c =
+    c.loop-at.invariant.4.size
+
+pub loop-at-preserved : goal.loop-at-preserved
+loop-at-preserved c =
+    let l = c.loop-at in
+    let text = c.args.text.now in
+    let n = node-found (goal.at.loop-at-preserved c).In-Right-node_at in (
+      n.found.within,
+      omega (arith, few (goal.at.loop-at-preserved c).In-Right-node_at),
+      l.invariant.2,
+      node-standing text l.invariant.3 n,
+      collected_more l.invariant.4 (few (goal.at.loop-at-preserved c).In-Right-node_at) _ _ _ _ (node_record_lem text l.invariant.3 n) c.put_node.ensures,
+    )
+
+-- the whole file is right
+right : (c : After-loop-at)
+    → let l = c.loop-at in let text = c.args.text.now in
+    (file_right text ≡ true) × (file_nodes text ≡ l.nodes)
+right c = right_end c.args.text.now c.loop-at.invariant.3 c.loop-at-test.false
 
 pub returns-then-table-size : goal.returns-then-table-size
 returns-then-table-size c =
     let l = c.loop-at in
     let x = c.args in
-    let r = (let right : let l = c.loop-at in let text = c.args.text.now in (file_right text ≡ true) × (file_nodes text ≡ l.nodes) = right_end c.args.text.now c.loop-at.invariant.3 c.loop-at-test.false in right) in
-    file-no-room x.text.now x.table.now ((let short-of : length c.args.text.now ≤ most_bytes = c.if-text-gt-MOST_BYTES.false in short-of)) r.0 _ l.nodes l.invariant.2 r.1 c.if-table-size.true
+    let r = right (goal.at.returns-then-table-size c).After-loop-at in
+    file-no-room x.text.now x.table.now (short-of (goal.at.returns-then-table-size c).At-loop-at) r.0 _ l.nodes l.invariant.2 r.1 c.if-table-size.true
+
+-- the bytes that are copied
+copied : (c : At-loop-at)
+    → length (take (node_bytes * c.loop-at.nodes) c.loop-at.bytes) ≡ node_bytes * c.loop-at.nodes
+copied c = ap length c.loop-at.invariant.4.front ∙ length_records c.args.text.now c.loop-at.nodes
 
 pub returns : goal.returns
 returns c =
     let l = c.loop-at in
     let x = c.args in
-    let r = (let right : let l = c.loop-at in let text = c.args.text.now in (file_right text ≡ true) × (file_nodes text ≡ l.nodes) = right_end c.args.text.now c.loop-at.invariant.3 c.loop-at-test.false in right) in
-    file-stored x.text.now x.table.now ((let short-of : length c.args.text.now ≤ most_bytes = c.if-text-gt-MOST_BYTES.false in short-of)) r.0 _ l.nodes l.invariant.2 r.1 _ c.if-table-size.false
+    let r = right (goal.at.returns c).After-loop-at in
+    file-stored x.text.now x.table.now (short-of (goal.at.returns c).At-loop-at) r.0 _ l.nodes l.invariant.2 r.1 _ c.if-table-size.false
     (c.put_bytes.ensures.list ∙ ap (splice x.table.now 0) l.invariant.4.front)
 
 pub returns-then-text-gt-MOST_BYTES : goal.returns-then-text-gt-MOST_BYTES
@@ -64,7 +113,15 @@ returns-then-text-gt-MOST_BYTES c =
 
 pub slice_bounds-put_node-end : goal.slice_bounds-put_node-end
 slice_bounds-put_node-end c =
-    sym ((let sized : length c.loop-at.bytes ≡ node_bytes * most_nodes = c.loop-at.invariant.4.size in sized))
+    sym (sized (goal.at.slice_bounds-put_node-end c).In-Right-node_at)
+
+pub put_node-requires : goal.put_node-requires
+put_node-requires c =
+    omega (arith, few (goal.at.put_node-requires c).In-Right-node_at, sized (goal.at.put_node-requires c).In-Right-node_at)
+
+pub loop-at-smaller : goal.loop-at-smaller
+loop-at-smaller c =
+    let n = node-found (goal.at.loop-at-smaller c).In-Right-node_at in omega (arith, n.found.beyond, n.found.within)
 
 pub slice_bounds-bytes-end : goal.slice_bounds-bytes-end
 slice_bounds-bytes-end c =
@@ -72,8 +129,8 @@ slice_bounds-bytes-end c =
 
 pub slice_bounds-put_bytes-end : goal.slice_bounds-put_bytes-end
 slice_bounds-put_bytes-end c =
-    sym ((let copied : length (take (node_bytes * c.loop-at.nodes) c.loop-at.bytes) ≡ node_bytes * c.loop-at.nodes = ap length c.loop-at.invariant.4.front ∙ length_records c.args.text.now c.loop-at.nodes in copied))
+    sym (copied (goal.at.slice_bounds-put_bytes-end c).At-loop-at)
 
 pub put_bytes-requires : goal.put_bytes-requires
 put_bytes-requires c =
-    omega (arith, (let copied : length (take (node_bytes * c.loop-at.nodes) c.loop-at.bytes) ≡ node_bytes * c.loop-at.nodes = ap length c.loop-at.invariant.4.front ∙ length_records c.args.text.now c.loop-at.nodes in copied), c.if-table-size.false)
+    omega (arith, copied (goal.at.put_bytes-requires c).At-loop-at, c.if-table-size.false)

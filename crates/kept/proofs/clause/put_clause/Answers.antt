@@ -1,0 +1,43 @@
+-- `kept::clause::put_clause` meets its contract: literals, then the zero, and the row is wiped. Assumes nothing.
+use mathlib.Core.Path.{refl}
+use native.Mathlib.Omega.{arith}
+use Rattle.tidied.specs.Tidying.{firsts_of, others_of, literal_changes}
+use Rattle.sets.specs.Inner.Sets.{clause_from}
+use Rattle.sets.proofs.Laws.Codes.{marked_legible, marked-wiped}
+use Rattle.kept.proofs.Laws.Literals.{literals_room, zero_room, clause-drawn}
+use Rattle.kept.proofs.clause.put_clause.Goals as goal
+
+pub put_literals-drawn-requires : goal.put_literals-drawn-requires
+put_literals-drawn-requires c =
+    let x = c.args in
+    let p = c.requires in
+    let clause = clause_from x.bytes.now x.from in
+    record {
+      ready = p.ready;
+      long = p.long;
+      drawable = literals_room (firsts_of clause) (literal_changes x.clause (others_of clause)) p.drawable;
+    }
+
+pub wipe-requires : goal.wipe-requires
+wipe-requires c =
+    marked_legible c.requires.ready c.args.from _ c.put_literals-drawn.ensures.1
+
+-- the zero has room, and one clause more is counted
+pub put_word-requires : goal.put_word-requires
+put_word-requires c =
+    let x = c.args in
+    let clause = clause_from x.bytes.now x.from in
+    (zero_room (firsts_of clause) (literal_changes x.clause (others_of clause)) c.requires.drawable c.put_literals-drawn.ensures.0).kept_room
+
+pub overflow_add-result : goal.overflow_add-result
+overflow_add-result c =
+    record { fits = omega (arith, c.requires.drawable.clauses_few, c.put_literals-drawn.ensures.0.clauses_are) }
+
+pub returns : goal.returns
+returns c =
+    let x = c.args in
+    let clause = clause_from x.bytes.now x.from in (
+      clause-drawn (firsts_of clause) (literal_changes x.clause (others_of clause)) c.requires.drawable c.put_literals-drawn.ensures.0
+          c.put_word.ensures refl,
+      marked-wiped c.requires.ready x.from _ c.put_literals-drawn.ensures.1 _ c.wipe.ensures,
+    )
