@@ -1,6 +1,5 @@
 -- `header::read` meets its contract: what is still to be read leads from the present state to where the whole text leads.
 -- Both loops go on by one law. Assumes nothing.
--- in a comment: past the place of this turn
 use mathlib.Core.Path.{◌≡◌, sym, ◌∙◌}
 use mathlib.Core.Bool.{false, true}
 use mathlib.Core.List.{List}
@@ -12,7 +11,17 @@ use Rattle.header.specs.Inner.Heads.{is_over, is_comment, step_of}
 use Rattle.header.proofs.Laws.Steps.{run-over}
 use Rattle.header.proofs.Laws.Reading.{Nearer, reading_start, left, left-more, nearer_step}
 use Rattle.header.proofs.Laws.Reading.{nearer_comment, left-comment}
+use Rattle.header.proofs.read.Goals.{After-comment-head, At-loop-head, At-loop-head-2, Else-is_over, Then-is_comment}
 use Rattle.header.proofs.read.Goals as goal
+
+abbrev text_of : At-loop-head → List ℕ
+text_of c = c.args.text.now
+
+more : (c : Else-is_over) → is_over c.loop-head.head.phase ≡ false
+more c = sym c.is_over.ensures ∙ c.if-is_over.false
+
+in-comment : (c : Then-is_comment) → is_comment c.loop-head-2.head.phase ≡ true
+in-comment c = sym c.is_comment.ensures ∙ c.if-is_comment.true
 
 pub loop-head-init : goal.loop-head-init
 loop-head-init c = let x = c.args in reading_start x.form x.text.now c.start-head.result c.start-head.ensures
@@ -33,13 +42,37 @@ step-head-requires c =
 pub loop-head-2-init : goal.loop-head-2-init
 loop-head-2-init c =
     let x = c.args in
-    nearer_step x.form x.text.now c.loop-head.head c.loop-head.invariant c.loop-head-test.true ((let more : is_over c.loop-head.head.phase ≡ false = sym c.is_over.ensures ∙ c.if-is_over.false in more))
+    nearer_step x.form x.text.now c.loop-head.head c.loop-head.invariant c.loop-head-test.true (more (goal.at.loop-head-2-init c).Else-is_over)
     c.step-head.result c.step-head.ensures
+
+-- behind the comments less is left than before this turn
+less-left : (c : At-loop-head-2)
+    → left (text_of (goal.at.At-loop-head-2 c).At-loop-head) c.loop-head-2.head < left (text_of (goal.at.At-loop-head-2 c).At-loop-head) c.loop-head.head
+less-left c =
+    omega (arith, c.loop-head-2.invariant.less, left-more (text_of (goal.at.At-loop-head-2 c).At-loop-head) c.loop-head.head (more (goal.at.At-loop-head-2 c).Else-is_over))
 
 pub comment-head-requires : goal.comment-head-requires
 comment-head-requires c =
     let pre = c.requires in
     record { table = pre.table; room = omega arith }
+
+-- one byte of a comment on
+on : (c : After-comment-head) → let x = c.args in Nearer x.form x.text.now c.loop-head-2.head.place c.comment-head.result
+on c =
+    let l = c.loop-head-2 in
+    let x = c.args in
+    nearer_comment x.form x.text.now l.head l.invariant.reading c.loop-head-2-test.true (in-comment (goal.at.After-comment-head c).Then-is_comment)
+    c.comment-head.result c.comment-head.ensures
+
+was : (c : Then-is_comment) → let t = text_of (goal.at.Then-is_comment c).At-loop-head in left t c.loop-head-2.head ≡ length t - c.loop-head-2.head.place + 1
+was c = left-comment (text_of (goal.at.Then-is_comment c).At-loop-head) c.loop-head-2.head (in-comment c)
+
+pub loop-head-2-smaller : goal.loop-head-2-smaller
+loop-head-2-smaller c = omega (arith, (on c).less, was (goal.at.loop-head-2-smaller c).Then-is_comment)
+
+pub loop-head-2-preserved : goal.loop-head-2-preserved
+loop-head-2-preserved c =
+    record { reading = (on c).reading; less = omega (arith, (on c).less, was (goal.at.loop-head-2-preserved c).Then-is_comment, c.loop-head-2.invariant.less) }
 
 pub returns : goal.returns
 returns c =
@@ -52,7 +85,7 @@ bounds-text-place c =
 
 pub loop-head-smaller-else-is_comment : goal.loop-head-smaller-else-is_comment
 loop-head-smaller-else-is_comment c =
-    (let less-left : left ((let text_of : List ℕ = c.args.text.now in text_of)) c.loop-head-2.head < left ((let text_of : List ℕ = c.args.text.now in text_of)) c.loop-head.head = omega (arith, c.loop-head-2.invariant.less, left-more ((let text_of : List ℕ = c.args.text.now in text_of)) c.loop-head.head ((let more : is_over c.loop-head.head.phase ≡ false = sym c.is_over.ensures ∙ c.if-is_over.false in more))) in less-left)
+    less-left (goal.at.loop-head-smaller-else-is_comment c).At-loop-head-2
 
 pub loop-head-preserved-else-is_comment : goal.loop-head-preserved-else-is_comment
 loop-head-preserved-else-is_comment c =
@@ -60,7 +93,7 @@ loop-head-preserved-else-is_comment c =
 
 pub loop-head-smaller : goal.loop-head-smaller
 loop-head-smaller c =
-    (let less-left : left ((let text_of : List ℕ = c.args.text.now in text_of)) c.loop-head-2.head < left ((let text_of : List ℕ = c.args.text.now in text_of)) c.loop-head.head = omega (arith, c.loop-head-2.invariant.less, left-more ((let text_of : List ℕ = c.args.text.now in text_of)) c.loop-head.head ((let more : is_over c.loop-head.head.phase ≡ false = sym c.is_over.ensures ∙ c.if-is_over.false in more))) in less-left)
+    less-left (goal.at.loop-head-smaller c).At-loop-head-2
 
 pub loop-head-preserved : goal.loop-head-preserved
 loop-head-preserved c =

@@ -1,10 +1,10 @@
 -- `header::read` meets its contract: what is still to be read leads from the present state to where the whole text leads.
 -- Both loops go on by one law. Assumes nothing.
--- in a comment: past the place of this turn
 use Prim.Native.Nat.{◌-◌}
 use Rattle.header.proofs.Laws.Reading.{Reading, Nearer, left}
 use Rattle.header.proofs.read.Given as goal
 
+-- in a comment: past the place of this turn
 abbrev pub invariant-loop-head-2 : goal.invariant-loop-head-2
 invariant-loop-head-2 l = Nearer l.form l.text l.place l.head
 

@@ -8,19 +8,28 @@ use Rattle.laws.proofs.First.{looking_start, looking_more, looking_here, looking
 use Rattle.formula.specs.Checks.{record_right}
 use Rattle.formula.specs.Tables.{node_at, fault_of}
 use Rattle.formula.specs.declared.node.Node.{Node}
+use Rattle.formula.proofs.table.first_wrong.Goals.{After-fault}
 use Rattle.formula.proofs.table.first_wrong.Goals as goal
+
+-- the number that was tested is that of the record
+tested : (c : After-fault)
+    → let x = c.args in
+    c.fault.result ≡ fault_of x.options c.loop-i.i (node_at x.table.now c.loop-i.i)
+tested c =
+    c.fault.ensures ∙ ap (λ (n : Node). fault_of c.args.options c.loop-i.i n)
+    c.node_at.ensures
 
 pub returns-then-fault-ne0 : goal.returns-then-fault-ne0
 returns-then-fault-ne0 c =
     looking_here (record_right c.args.table.now c.args.options) _ c.loop-i.i
     c.loop-i.invariant (omega arith)
-    (ne_eqb _ 0 (λ e. c.if-fault-ne0.true ((let tested : let x = c.args in c.fault.result ≡ fault_of x.options c.loop-i.i (node_at x.table.now c.loop-i.i) = c.fault.ensures ∙ ap (λ (n : Node). fault_of c.args.options c.loop-i.i n) c.node_at.ensures in tested) ∙ e)))
+    (ne_eqb _ 0 (λ e. c.if-fault-ne0.true (tested (goal.at.returns-then-fault-ne0 c).After-fault ∙ e)))
 
 pub loop-i-preserved : goal.loop-i-preserved
 loop-i-preserved c =
     looking_more (record_right c.args.table.now c.args.options) _ c.loop-i.i
     c.loop-i.invariant (omega arith)
-    (eq-eqb _ 0 (sym ((let tested : let x = c.args in c.fault.result ≡ fault_of x.options c.loop-i.i (node_at x.table.now c.loop-i.i) = c.fault.ensures ∙ ap (λ (n : Node). fault_of c.args.options c.loop-i.i n) c.node_at.ensures in tested)) ∙ c.if-fault-ne0.false))
+    (eq-eqb _ 0 (sym (tested (goal.at.loop-i-preserved c).After-fault) ∙ c.if-fault-ne0.false))
 
 pub returns : goal.returns
 returns c =

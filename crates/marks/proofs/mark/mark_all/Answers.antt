@@ -5,6 +5,7 @@ use Prim.Native.Nat.{ℕ, ◌≤◌}
 use native.Mathlib.Omega.{arith}
 use Rattle.formula.specs.Tables.{most_nodes, node_count}
 use Rattle.marks.proofs.Laws.Passing.{Passing, passing_start, passing_step, passing_end}
+use Rattle.marks.proofs.mark.mark_all.Goals.{Start}
 use Rattle.marks.proofs.mark.mark_all.Goals as goal
 
 pub loop-i-init : goal.loop-i-init
@@ -29,10 +30,18 @@ returns c =
     let t = c.args.table.now in
     passing_end t c.loop-i.marks (subst (λ (i : ℕ). Passing t i c.loop-i.marks) (omega arith) c.loop-i.invariant.1)
 
+-- a right table has no more nodes than the array has room for
+fits : (c : Start) → node_count c.args.table.now ≤ most_nodes
+fits c = omega (arith, c.requires.size.most)
+
 pub overflow_sub-marks : goal.overflow_sub-marks
 overflow_sub-marks c =
     omega (arith, c.requires.size.some)
 
 pub bounds-marks-count : goal.bounds-marks-count
 bounds-marks-count c =
-    omega (arith, (let fits : node_count c.args.table.now ≤ most_nodes = omega (arith, c.requires.size.most) in fits))
+    omega (arith, fits (goal.at.bounds-marks-count c).Start)
+
+pub pass-requires : goal.pass-requires
+pass-requires c =
+    record { i_lt_count = omega arith; count_le_most_nodes = fits (goal.at.pass-requires c).Start }

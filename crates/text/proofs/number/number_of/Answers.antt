@@ -7,12 +7,18 @@ use lib.Dec.{ltb}
 use lib.ListN.{get_or}
 use Rattle.text.specs.Inner.Numbers.{grown_of}
 use Rattle.text.proofs.Laws.Fields.{reading_none, reading_start, reading_no_digit, reading_over, reading_more, reading_end}
-use Rattle.text.proofs.number.number_of.Goals as goal
 use Rattle.text.proofs.number.number_of.Goals.{After-grown}
+use Rattle.text.proofs.number.number_of.Goals as goal
 
 -- the digit that is taken in
-taken : (c : After-grown) → c.grown.result ≡ grown_of (ltb 0 c.loop-i.i) c.loop-i.value (get_or c.args.bytes.now c.loop-i.i 0 - 48) c.args.most
-taken c = c.grown.ensures ∙ ap (λ (d : ℕ). grown_of (ltb 0 c.loop-i.i) c.loop-i.value d c.args.most) c.digit_of.ensures
+taken : (c : After-grown)
+    → let l = c.loop-i in
+    let x = c.args in
+    c.grown.result ≡ grown_of (ltb 0 l.i) l.value (get_or x.bytes.now l.i 0 - 48) x.most
+taken c =
+    let l = c.loop-i in
+    let x = c.args in
+    c.grown.ensures ∙ ap (λ (d : ℕ). grown_of (ltb 0 l.i) l.value d x.most) c.digit_of.ensures
 
 -- no digit
 pub returns-then-not-is_digit : goal.returns-then-not-is_digit

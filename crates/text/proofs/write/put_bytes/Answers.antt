@@ -8,6 +8,7 @@ use native.Mathlib.Omega.{arith}
 use lib.ListN.{length, get_or, set, drop, drop_of_length-le}
 use lib.Seq.{drop-cons}
 use Rattle.laws.proofs.Stored.{Storing, storing_start, storing_room, storing_length, storing_more, storing_end, stored-byte}
+use Rattle.text.proofs.write.put_bytes.Goals.{In-loop-i}
 use Rattle.text.proofs.write.put_bytes.Goals as goal
 
 pub loop-i-init : goal.loop-i-init
@@ -16,13 +17,32 @@ loop-i-init c =
     let w = storing_start x.bytes.now x.text.now x.at in
     (omega arith, subst⁻¹ (Storing x.bytes.now x.text.now x.at x.bytes.now x.text.now) (add-zero x.at) w)
 
+-- the byte that is stored, and the rest
+ahead : (c : In-loop-i)
+    → let x = c.args in
+    let l = c.loop-i in
+    Storing x.bytes.now x.text.now x.at ((get_or x.bytes.now l.i 0 ∷ []) ++ drop (l.i + 1) x.bytes.now) l.text
+    (x.at + l.i)
+ahead c =
+    let x = c.args in
+    let l = c.loop-i in
+    let bytes = x.bytes.now in
+    subst (λ (r : List ℕ). Storing bytes x.text.now x.at r l.text (x.at + l.i))
+    (drop-cons bytes l.i 0 c.loop-i-test.true ∙ ap (λ (n : ℕ). get_or bytes l.i 0 ∷ drop n bytes) (sym (add-one l.i)))
+    l.invariant.1
+
+room : (c : In-loop-i) → c.args.at + c.loop-i.i < length c.loop-i.text
+room c =
+    let x = c.args in
+    omega (arith, storing_room c.requires (get_or x.bytes.now c.loop-i.i 0 ∷ []) _ (ahead c))
+
 pub loop-i-preserved : goal.loop-i-preserved
 loop-i-preserved c =
     let l = c.loop-i in
     let x = c.args in
     let bytes = x.bytes.now in
     let b = get_or bytes l.i 0 in
-    let w = storing_more c.requires (b ∷ []) _ ((let ahead : let x = c.args in let l = c.loop-i in Storing x.bytes.now x.text.now x.at ((get_or x.bytes.now l.i 0 ∷ []) ++ drop (l.i + 1) x.bytes.now) l.text (x.at + l.i) = let x = c.args in let l = c.loop-i in let bytes = x.bytes.now in subst (λ (r : List ℕ). Storing bytes x.text.now x.at r l.text (x.at + l.i)) (drop-cons bytes l.i 0 c.loop-i-test.true ∙ ap (λ (n : ℕ). get_or bytes l.i 0 ∷ drop n bytes) (sym (add-one l.i))) l.invariant.1 in ahead)) (stored-byte l.text (x.at + l.i) b ((let room : c.args.at + c.loop-i.i < length c.loop-i.text = let x = c.args in omega (arith, storing_room c.requires (get_or x.bytes.now c.loop-i.i 0 ∷ []) _ ((let ahead : let x = c.args in let l = c.loop-i in Storing x.bytes.now x.text.now x.at ((get_or x.bytes.now l.i 0 ∷ []) ++ drop (l.i + 1) x.bytes.now) l.text (x.at + l.i) = let x = c.args in let l = c.loop-i in let bytes = x.bytes.now in subst (λ (r : List ℕ). Storing bytes x.text.now x.at r l.text (x.at + l.i)) (drop-cons bytes l.i 0 c.loop-i-test.true ∙ ap (λ (n : ℕ). get_or bytes l.i 0 ∷ drop n bytes) (sym (add-one l.i))) l.invariant.1 in ahead))) in room))) in (
+    let w = storing_more c.requires (b ∷ []) _ (ahead (goal.at.loop-i-preserved c).In-loop-i) (stored-byte l.text (x.at + l.i) b (room (goal.at.loop-i-preserved c).In-loop-i)) in (
       omega arith,
       subst (Storing bytes x.text.now x.at (drop (l.i + 1) bytes) (set l.text (x.at + l.i) b)) (add_assoc x.at l.i 1) w,
     )
@@ -36,7 +56,7 @@ overflow_add-text c =
 
 pub bounds-text-at : goal.bounds-text-at
 bounds-text-at c =
-    (let room : c.args.at + c.loop-i.i < length c.loop-i.text = let x = c.args in omega (arith, storing_room c.requires (get_or x.bytes.now c.loop-i.i 0 ∷ []) _ ((let ahead : let x = c.args in let l = c.loop-i in Storing x.bytes.now x.text.now x.at ((get_or x.bytes.now l.i 0 ∷ []) ++ drop (l.i + 1) x.bytes.now) l.text (x.at + l.i) = let x = c.args in let l = c.loop-i in let bytes = x.bytes.now in subst (λ (r : List ℕ). Storing bytes x.text.now x.at r l.text (x.at + l.i)) (drop-cons bytes l.i 0 c.loop-i-test.true ∙ ap (λ (n : ℕ). get_or bytes l.i 0 ∷ drop n bytes) (sym (add-one l.i))) l.invariant.1 in ahead))) in room)
+    room (goal.at.bounds-text-at c).In-loop-i
 
 pub overflow_add-result : goal.overflow_add-result
 overflow_add-result c =

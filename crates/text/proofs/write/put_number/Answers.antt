@@ -6,6 +6,7 @@ use lib.ListN.{length, length-set}
 use Rattle.text.specs.Texts.{decimal}
 use Rattle.text.proofs.Laws.Backward.{backward_start, backward_length, backward_room, backward_more, backward_end}
 use Rattle.text.proofs.Laws.Decimals.{decimal-some, length_last}
+use Rattle.text.proofs.write.put_number.Goals.{At-loop-rest}
 use Rattle.text.proofs.write.put_number.Goals as goal
 
 pub loop-rest-init : goal.loop-rest-init
@@ -13,6 +14,12 @@ loop-rest-init c =
     let x = c.args in
     let e : x.at + c.width.result ≡ x.at + length (decimal x.number) = omega (arith, c.width.ensures) in
     (e, backward_start x.number x.text.now x.at c.requires _ (omega (arith, e, decimal-some x.number)))
+
+-- the place that is written lies inside
+has_room : (c : At-loop-rest) → c.loop-rest.i < length c.loop-rest.text
+has_room c =
+    let x = c.args in
+    backward_room x.number x.text.now x.at c.requires c.loop-rest.invariant.1
 
 pub loop-rest-preserved : goal.loop-rest-preserved
 loop-rest-preserved c =
@@ -48,8 +55,8 @@ overflow_sub-i c =
 
 pub bounds-text-i : goal.bounds-text-i
 bounds-text-i c =
-    (let has_room : c.loop-rest.i < length c.loop-rest.text = let x = c.args in backward_room x.number x.text.now x.at c.requires c.loop-rest.invariant.1 in has_room)
+    has_room (goal.at.bounds-text-i c).At-loop-rest
 
 pub bounds-text-i-2 : goal.bounds-text-i-2
 bounds-text-i-2 c =
-    (let has_room : c.loop-rest.i < length c.loop-rest.text = let x = c.args in backward_room x.number x.text.now x.at c.requires c.loop-rest.invariant.1 in has_room)
+    has_room (goal.at.bounds-text-i-2 c).At-loop-rest

@@ -1,0 +1,86 @@
+-- `tidy::pass::put_window` meets its contract: clause after clause is put, each at its place and by its first clause.
+-- Assumes nothing.
+use mathlib.Core.Path.{refl, ap, ◌∙◌}
+use Prim.Native.Nat.{◌+◌, ◌-◌, ◌<◌}
+use native.Mathlib.Omega.{arith}
+use lib.ListN.{length}
+use Rattle.clausebytes.specs.Words.{most_clauses}
+use Rattle.tidy.proofs.Laws.Places.{place-low}
+use Rattle.tidy.proofs.Laws.Passing.{passing_start, passing_room, passing_next}
+use Rattle.tidy.proofs.Laws.Passing.{passing_end, lengths-same}
+use Rattle.tidy.proofs.pass.put_window.Goals.{In-loop-i}
+use Rattle.tidy.proofs.pass.put_window.Goals as goal
+
+-- the number of a clause is small
+few : (c : In-loop-i) → c.args.start + c.loop-i.i < most_clauses
+few c = let p = c.requires in omega (arith, c.loop-i-test.true, p.within, p.clauses)
+
+pub put_fate-drawn-requires : goal.put_fate-drawn-requires
+put_fate-drawn-requires c =
+    let p = c.requires in
+    record {
+      ready = record { within = p.ready.within; empty = c.loop-i.invariant.1 ∙ p.ready.empty };
+      long = p.long;
+      drawable = passing_room p c.loop-i.invariant.0 c.loop-i-test.true;
+    }
+
+pub loop-i-preserved : goal.loop-i-preserved
+loop-i-preserved c =
+    (
+      passing_next c.requires c.loop-i.invariant.0 c.loop-i-test.true c.put_fate-drawn.ensures.0
+          c.end_of-at.result c.end_of-at.ensures,
+      c.put_fate-drawn.ensures.1 ∙ c.loop-i.invariant.1,
+    )
+
+-- the next place is not far behind the bytes
+pub overflow_add-at : goal.overflow_add-at
+overflow_add-at c =
+    record {
+      fits = omega (
+        arith,
+        (loop-i-preserved c).0.at_is,
+        few (goal.at.overflow_add-at c).In-loop-i,
+        c.requires.long,
+        place-low c.args.bytes.now (c.args.start + (c.loop-i.i + 1)),
+      );
+    }
+
+pub loop-i-init : goal.loop-i-init
+loop-i-init c =
+    (passing_start c.requires, refl)
+
+pub offset_bounds-firsts-i : goal.offset_bounds-firsts-i
+offset_bounds-firsts-i c =
+    record { fits = omega (arith, few c) }
+
+pub bounds-firsts-i : goal.bounds-firsts-i
+bounds-firsts-i c =
+    omega (arith, c.loop-i-test.true, c.requires.firsts_size)
+
+pub overflow_add-number : goal.overflow_add-number
+overflow_add-number c =
+    record { fits = omega (arith, few (goal.at.overflow_add-number c).In-loop-i, c.loop-i.invariant.0.number_is) }
+
+pub overflow_add-i : goal.overflow_add-i
+overflow_add-i c =
+    record { fits = omega (arith, few (goal.at.overflow_add-i c).In-loop-i) }
+
+pub loop-i-smaller : goal.loop-i-smaller
+loop-i-smaller c =
+    omega (arith, c.loop-i-test.true)
+
+pub shape_of-out : goal.shape_of-out
+shape_of-out c =
+    (lengths-same c.requires c.loop-i.invariant.0).0
+
+pub shape_of-lines : goal.shape_of-lines
+shape_of-lines c =
+    (lengths-same c.requires c.loop-i.invariant.0).1
+
+pub shape_of-row : goal.shape_of-row
+shape_of-row c =
+    ap length c.loop-i.invariant.1
+
+pub returns : goal.returns
+returns c =
+    (passing_end c.requires c.loop-i.invariant.0 c.loop-i-test.false, c.loop-i.invariant.1)

@@ -1,0 +1,79 @@
+-- `tidy::window::note` meets its contract: place, signature and slot of each clause are stored. Assumes nothing.
+use mathlib.Core.Path.{refl, sym, ap, ◌∙◌}
+use mathlib.Core.Bool.{true}
+use Prim.Native.Nat.{ℕ, ◌+◌, ◌-◌, ◌<◌}
+use native.Mathlib.Omega.{arith}
+use lib.ListN.{length, set, length-replicate}
+use Rattle.tidy.specs.Inner.Windows.{slot_bytes}
+use Rattle.bits.specs.Inner.Rows.{row_to}
+use Rattle.tidy.proofs.Laws.Noting.{Noting, noting_start, noting_next, noting_end, slot-inside}
+use Rattle.tidy.proofs.window.note.Goals.{After-end_of-at, In-loop-i}
+use Rattle.tidy.proofs.window.note.Goals as goal
+
+pub loop-i-init : goal.loop-i-init
+loop-i-init c =
+    let x = c.args in
+    let p = c.requires in (
+      noting_start x.bytes.now x.place x.count x.seed x.places.now x.signs.now x.slots.now
+          p.start p.places_size p.signs_size p.slots_empty,
+      refl,
+    )
+
+pub sign-sign-requires : goal.sign-sign-requires
+sign-sign-requires c =
+    let p = c.requires in
+    record { ready = record { within = p.ready.within; empty = c.loop-i.invariant.1 ∙ p.ready.empty }; few = p.seed_few }
+
+-- the number of a clause is below the entries of both arrays
+below : (c : In-loop-i) → c.loop-i.i < 1_024
+below c = omega (arith, c.requires.few, c.loop-i-test.true)
+
+pub put-requires : goal.put-requires
+put-requires c =
+    rw c.slot.ensures (slot-inside c.sign-sign.result (length c.loop-i.slots) c.loop-i.invariant.0.size)
+
+-- one clause more
+more : (c : After-end_of-at)
+    → let x = c.args in
+    Noting x.bytes.now x.place x.count x.seed (set c.loop-i.places c.loop-i.i c.loop-i.at)
+    (set c.loop-i.signs c.loop-i.i c.sign-sign.result) c.put.new.row (c.end_of-at.result + 1) (c.loop-i.i + 1)
+more c =
+    let row = c.put.ensures ∙ ap (λ (n : ℕ). row_to c.loop-i.slots n true) c.slot.ensures in
+    noting_next c.loop-i.invariant.0 c.requires.few c.loop-i-test.true c.sign-sign.result c.sign-sign.ensures.0
+    c.requires.long c.put.new.row row c.end_of-at.result c.end_of-at.ensures
+
+pub overflow_add-at : goal.overflow_add-at
+overflow_add-at c = record { fits = omega (arith, (more c).low, below (goal.at.overflow_add-at c).In-loop-i) }
+
+pub loop-i-preserved : goal.loop-i-preserved
+loop-i-preserved c =
+    (more c, c.sign-sign.ensures.1 ∙ c.loop-i.invariant.1)
+
+pub returns : goal.returns
+returns c =
+    let p = c.requires in
+    (noting_end c.loop-i.invariant.0 c.loop-i-test.false p.few p.seed_few, c.loop-i.invariant.1)
+
+pub offset_bounds-places-i : goal.offset_bounds-places-i
+offset_bounds-places-i c =
+    record { fits = omega (arith, below (goal.at.offset_bounds-places-i c).In-loop-i) }
+
+pub bounds-places-i : goal.bounds-places-i
+bounds-places-i c =
+    below (goal.at.bounds-places-i c).In-loop-i
+
+pub offset_bounds-signs-i : goal.offset_bounds-signs-i
+offset_bounds-signs-i c =
+    record { fits = omega (arith, below (goal.at.offset_bounds-signs-i c).In-loop-i) }
+
+pub bounds-signs-i : goal.bounds-signs-i
+bounds-signs-i c =
+    below (goal.at.bounds-signs-i c).In-loop-i
+
+pub shape_of-slots : goal.shape_of-slots
+shape_of-slots c =
+    c.loop-i.invariant.0.size ∙ sym (ap length c.requires.slots_empty ∙ length-replicate {A = ℕ} slot_bytes 0)
+
+pub shape_of-row : goal.shape_of-row
+shape_of-row c =
+    ap length c.loop-i.invariant.1

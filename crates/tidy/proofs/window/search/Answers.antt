@@ -1,0 +1,153 @@
+-- `tidy::window::search` meets its contract: every clause up to the end of the window is looked for. Assumes nothing.
+use mathlib.Core.Path.{◌≡◌, refl, sym, ap, ◌∙◌}
+use mathlib.Core.Bool.{true, false, false≢true}
+use Prim.Native.Nat.{ℕ, ◌+◌, ◌*◌, ◌-◌, ◌≤◌, ◌<◌}
+use native.Mathlib.Omega.{arith}
+use lib.ListN.{length}
+use Rattle.tidy.specs.Inner.Windows.{most, none, place_after}
+use Rattle.tidy.proofs.Laws.Places.{place-low, after-after}
+use Rattle.tidy.proofs.Laws.Searching.{Searching, searching_start, searching_next, searching_end}
+use Rattle.tidy.proofs.window.search.Goals.{After-end_of-at, After-scan-misses, At-loop-j, In-loop-j}
+use Rattle.tidy.proofs.window.search.Goals as goal
+
+pub note-requires : goal.note-requires
+note-requires c =
+    let p = c.requires in
+    record {
+      ready = p.ready;
+      long = p.long;
+      start  = omega (arith, p.place_is, place-low c.args.bytes.now c.args.start, p.within, p.clauses);
+      few  = p.few;
+      seed_few = p.seed_few;
+      places_size = refl;
+      signs_size = refl;
+      slots_empty = refl;
+    }
+
+pub loop-j-init : goal.loop-j-init
+loop-j-init c =
+    let x = c.args in
+    (searching_start x.bytes.now x.start x.count _ _ c.requires.few c.note.ensures.0.slotted, refl, omega arith)
+
+-- the row is as it was
+row_is : (c : At-loop-j) → c.loop-j.row ≡ c.args.row.now
+row_is c = c.loop-j.invariant.1 ∙ c.note.ensures.1
+
+pub sign-sign-requires : goal.sign-sign-requires
+sign-sign-requires c =
+    let p = c.requires in
+    record { ready = record { within = p.ready.within; empty = row_is (goal.at.sign-sign-requires c).At-loop-j ∙ p.ready.empty }; few  = p.seed_few }
+
+pub scan-misses-requires : goal.scan-misses-requires
+scan-misses-requires c =
+    let p = c.requires in
+    let s = c.loop-j.invariant.0 in
+    record {
+      ready = record { within = p.ready.within; empty = c.sign-sign.ensures.1 ∙ row_is (goal.at.scan-misses-requires c).At-loop-j ∙ p.ready.empty };
+      seed = c.args.seed;
+      signed = c.note.ensures.0.signed;
+      sign_is = c.sign-sign.ensures.0;
+      firsts_size = s.size;
+      slotted = s.slotted;
+    }
+
+-- the number of a clause is below that of no clause
+below : (c : In-loop-j) → c.loop-j.j < c.args.start + c.args.count
+below c = c.loop-j-test.true
+
+few : (c : In-loop-j) → c.loop-j.j < none
+few c = let p = c.requires in omega (arith, below c, p.within, p.clauses)
+
+-- what was left in vain, with that of this clause
+missed : (c : After-scan-misses)
+    → c.loop-j.misses + c.scan-misses.result ≤ most * (c.loop-j.j + 1)
+missed c = omega (arith, c.loop-j.invariant.2, c.scan-misses.ensures.2)
+
+-- it is given up
+pub returns-then-misses-limit : goal.returns-then-misses-limit
+returns-then-misses-limit c =
+    (
+      record {
+        unlimited = λ h. absurd (omega (arith, missed (goal.at.returns-then-misses-limit c).After-scan-misses, few (goal.at.returns-then-misses-limit c).In-loop-j, c.if-misses-limit.true));
+        firsts_are = λ e. absurd (false≢true e);
+      },
+      c.scan-misses.ensures.1 ∙ c.sign-sign.ensures.1 ∙ row_is (goal.at.returns-then-misses-limit c).At-loop-j,
+    )
+
+-- clause j was looked for
+next : (c : After-end_of-at)
+    → let x = c.args in
+    Searching x.bytes.now x.start x.count c.note.new.signs c.scan-misses.new.firsts
+    c.scan-misses.new.slots (c.end_of-at.result + 1) (c.loop-j.j + 1)
+next c =
+    let x = c.args in
+    let p = c.requires in
+    let note = c.note.ensures.0 in
+    let seen = c.scan-misses.ensures.0 in
+    searching_next c.note.new.places c.loop-j.invariant.0 p.closed p.within p.clauses
+    (λ i h. note.places_are i h ∙ ap (λ (q : ℕ). place_after x.bytes.now q i) p.place_is ∙ after-after x.bytes.now 0 x.start i)
+    (below (goal.at.After-end_of-at c).In-loop-j) _ seen.firsts_size seen.firsts_are _ seen.slotted c.end_of-at.result c.end_of-at.ensures
+
+pub loop-j-preserved : goal.loop-j-preserved
+loop-j-preserved c =
+    (next c, c.scan-misses.ensures.1 ∙ c.sign-sign.ensures.1 ∙ c.loop-j.invariant.1, missed (goal.at.loop-j-preserved c).After-scan-misses)
+
+pub returns : goal.returns
+returns c =
+    (record { unlimited = λ h. refl; firsts_are = λ e. searching_end c.loop-j.invariant.0 c.loop-j-test.false }, row_is (goal.at.returns c).At-loop-j)
+
+pub overflow_cast-end : goal.overflow_cast-end
+overflow_cast-end c =
+    record { fits = omega (arith, c.requires.few) }
+
+pub overflow_add-end : goal.overflow_add-end
+overflow_add-end c =
+    let p = c.requires in record { fits = omega (arith, p.within, p.clauses) }
+
+pub slice_bounds-note-end : goal.slice_bounds-note-end
+slice_bounds-note-end c =
+    refl
+
+pub slice_bounds-scan-end : goal.slice_bounds-scan-end
+slice_bounds-scan-end c =
+    sym c.note.ensures.0.signed.places_size
+
+pub slice_bounds-scan-end-in-loop-j : goal.slice_bounds-scan-end-in-loop-j
+slice_bounds-scan-end-in-loop-j c =
+    sym c.note.ensures.0.signed.signs_size
+
+pub slice_bounds-scan-end-in-loop-j-2 : goal.slice_bounds-scan-end-in-loop-j-2
+slice_bounds-scan-end-in-loop-j-2 c =
+    sym c.loop-j.invariant.0.slotted.size
+
+pub overflow_add-misses : goal.overflow_add-misses
+overflow_add-misses c =
+    record { fits = omega (arith, few (goal.at.overflow_add-misses c).In-loop-j, missed (goal.at.overflow_add-misses c).After-scan-misses) }
+
+pub shape_of-row-then-misses-limit : goal.shape_of-row-then-misses-limit
+shape_of-row-then-misses-limit c =
+    ap length (returns-then-misses-limit c).1
+
+pub overflow_add-at : goal.overflow_add-at
+overflow_add-at c =
+    record {
+      fits = omega (
+        arith,
+        (next c).at_is,
+        place-low c.args.bytes.now (c.loop-j.j + 1),
+        few (goal.at.overflow_add-at c).In-loop-j,
+        c.requires.long,
+      );
+    }
+
+pub overflow_add-j : goal.overflow_add-j
+overflow_add-j c =
+    record { fits = omega (arith, few (goal.at.overflow_add-j c).In-loop-j) }
+
+pub loop-j-smaller : goal.loop-j-smaller
+loop-j-smaller c =
+    omega (arith, below (goal.at.loop-j-smaller c).In-loop-j)
+
+pub shape_of-row : goal.shape_of-row
+shape_of-row c =
+    ap length (row_is (goal.at.shape_of-row c).At-loop-j)
