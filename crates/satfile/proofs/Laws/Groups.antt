@@ -70,6 +70,7 @@ Settled l = (r : List ℕ) → Same l r → skipped r ≡ r
 pub settled-empty : Settled []
 unfolding skipped
 settled-empty [] empty = refl
+settled-empty (_ ∷ _) h = elim h [ ]
 
 pub settled-byte : (b : ℕ) (l : List ℕ) → is_space b ≡ false → Settled (b ∷ l)
 unfolding skipped
