@@ -1,7 +1,7 @@
 -- `satfile::nested::formula` and `satfile::nested::list` meet their contracts: a formula is a symbol or a group; a group goes on, takes a
 -- member and has read it, or it ends and has its members. Assumes nothing.
-use Rattle.std.proofs.Common.{◌≡◌, refl, sym, ◌∙◌, true, false, ℕ, ◌+◌, ◌*◌, ◌-◌, drop, arith}
-use Rattle.satfile.specs.Inner.Reads.{takes, is_full, ends_at}
+use Rattle.std.proofs.Common.{◌≡◌, refl, sym, ◌∙◌, true, false, ℕ, drop, arith}
+use Rattle.satfile.specs.Inner.Reads.{takes, ends_at}
 use Rattle.satfile.proofs.Laws.Begins.{leaf_done, open_told, formula-wrong}
 use Rattle.satfile.proofs.Laws.Turns.{group_start, takes_by, full_by, group_over, group_lacks, group_wrong, group_unparted}
 use Rattle.satfile.proofs.Laws.Turns.{group_next, ahead, group_done}
