@@ -1,11 +1,9 @@
 -- The definitions on small inputs: what is accepted and as which formula, what is refused and at which place, and what a table is.
 -- Assumes nothing.
 use mathlib.Core.Path.{◌≡◌, refl}
-use mathlib.Core.List.{List, [], ◌∷◌, ◌++◌}
+use mathlib.Core.List.{List, [], ◌∷◌}
 use Prim.Native.Nat.{ℕ}
 use lib.ListN.{replicate}
-use Rattle.text.specs.Texts.{digits}
-use Rattle.answer.specs.Answers.{Wrote}
 use Rattle.answer.specs.declared.Answer.{Answer}
 use Rattle.answer.specs.declared.Answer.TheVariants.{Accepted, Room, SatText}
 use Rattle.satfile.specs.Trees.{Tree, And, Or, Symbol, Empty, Not, Joined, records_from, table_of}

@@ -104,7 +104,7 @@ module _ (Inside : Tree → List ℕ → List ℕ → Type 0) (g : Group) (one :
       go b grammar.none = rest_of_end b s r
       go b (grammar.more w x) = white w (go true x)
 
-  pub rest_of_single : {s : Tree} {l m n r : List ℕ} → Spaces m l → Inside s m n → Spaces (end_of g r) n
+  pub rest_of_single : {s : Tree} {m l n r : List ℕ} → Spaces m l → Inside s m n → Spaces (end_of g r) n
       → Rest Inside g true reads.none (made_of g s) l r
   rest_of_single grammar.none i e = member (ap (λ (x : Bool). x || true) one) i (rest_of_spaces e)
   rest_of_single (grammar.more w x) i e = white w (rest_of_single x i e)

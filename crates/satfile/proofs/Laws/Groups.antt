@@ -14,7 +14,7 @@ use Rattle.satfile.specs.Inner.Reads.{ends_at, behind, with_one, group_tree, is_
 use Rattle.satfile.specs.Inner.Reads as reads
 use Rattle.satfile.specs.declared.lead.Group.{Group}
 use Rattle.satfile.proofs.Laws.Rests.{taken, left}
-use Rattle.satfile.proofs.Laws.Outcomes.{Same, empty, first, Some, Outcome, none}
+use Rattle.satfile.proofs.Laws.Outcomes.{Same, empty, first, Some, Outcome}
 
 -- a reader of one thing: how it stops; that it reads what its language has, where something follows that may; and that no such thing
 -- begins with what may follow
@@ -70,6 +70,7 @@ Settled l = (r : List ℕ) → Same l r → skipped r ≡ r
 pub settled-empty : Settled []
 unfolding skipped
 settled-empty [] empty = refl
+settled-empty (_ ∷ _) h = elim h [ ]
 
 pub settled-byte : (b : ℕ) (l : List ℕ) → is_space b ≡ false → Settled (b ∷ l)
 unfolding skipped

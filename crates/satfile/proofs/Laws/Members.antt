@@ -89,6 +89,7 @@ module _ {inner : List ℕ → Out Tree} {Inside : Tree → List ℕ → List �
   end_empty b e f [] empty =
       at_once b [] _ (either b refl) (settled-empty [] empty)
       (λ n h. group_full inner g p [] e f n h ∙ ap (Read (group_tree g p)) (taken _ _ _ e))
+  end_empty b e f (_ ∷ _) h = elim h [ ]
 
   stop_full : (b : Bool) (l : List ℕ) → Settled l → ends_at g l ≡ true → is_full g p ≡ true
       → Outcome (Gives inner g b p) (Rest Inside g b p) l

@@ -50,6 +50,7 @@ numeral_begins q s = record { value = s.value; rest = s.rest; word = numeral_mor
 digits-end : (v x : ℕ) (s : List ℕ) → Same [] s → digits_from v x s ≡ Read x s
 unfolding digits_from
 digits-end v x [] empty = refl
+digits-end v x (_ ∷ _) h = elim h [ ]
 
 module _ (v x b : ℕ) (l : List ℕ) where
   digits-other : is_digit b ≡ false → (s : List ℕ) → Same (b ∷ l) s → digits_from v x s ≡ Read x s
@@ -94,6 +95,7 @@ digits_stop v x (b ∷ l) h g = go (is_digit b) refl (λ y. digits_stop v y l)
 -- a number from its first digit on
 number-empty : (v : ℕ) (s : List ℕ) → Same [] s → number_in v s ≡ Bad s
 number-empty v [] empty = refl
+number-empty v (_ ∷ _) h = elim h [ ]
 
 module _ (v b : ℕ) (l : List ℕ) where
   number-other : is_first b ≡ false → (s : List ℕ) → Same (b ∷ l) s → number_in v s ≡ Bad s

@@ -53,6 +53,7 @@ module _ {A : Type 0} (f : List ℕ → Out A) {L : A → List ℕ → List ℕ 
     where
       go : (s : List ℕ) → Same [] s → f s ≡ Bad s
       go [] empty = e
+      go (_ ∷ _) h = elim h [ ]
 
   pub none_first : (b : ℕ) (l : List ℕ) → ((r : List ℕ) → f (b ∷ r) ≡ Bad (b ∷ r)) → Outcome (λ m o. f m ≡ o) L (b ∷ l)
   none_first b l e = none go

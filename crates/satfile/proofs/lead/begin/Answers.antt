@@ -3,7 +3,6 @@ use mathlib.Core.Path.{sym, ◌∙◌}
 use mathlib.Core.Bool.{true, false}
 use Prim.Native.Nat.{◌+◌}
 use native.Mathlib.Omega.{arith}
-use borrow.Author.Tests.{not-true, not-false}
 use Rattle.satfile.proofs.Laws.Rests.{begin-end, begin_star_no, begin_star, begin_plus_no, begin_plus, begin_minus_no}
 use Rattle.satfile.proofs.Laws.Rests.{begin-minus, begin-other}
 use Rattle.satfile.proofs.Laws.Tells.{begin_as, few-behind}
@@ -54,7 +53,7 @@ returns-then-not-is_negated c =
       out =
           begin_minus_no a.text.now a.at a.options a.depth c.if-text-at.false c.if-byte-eq-STAR.false c.if-byte-eq-PLUS.false
           c.if-byte-eq-MINUS.true
-          (sym c.is_negated.ensures ∙ not-true c.is_negated.result c.if-not-is_negated.true-raw);
+          (sym c.is_negated.ensures ∙ c.if-not-is_negated.true);
       within = c.requires;
     }
 
@@ -64,7 +63,7 @@ returns-then-byte-eq-MINUS c =
     begin_as a.text.now a.at (a.at + 1) a.depth
     (begin-minus a.text.now a.at a.options a.depth c.if-text-at.false c.if-byte-eq-STAR.false c.if-byte-eq-PLUS.false
     c.if-byte-eq-MINUS.true
-    (sym c.is_negated.ensures ∙ not-false c.is_negated.result c.if-not-is_negated.false-raw))
+    (sym c.is_negated.ensures ∙ c.if-not-is_negated.false))
     (omega arith) true (few-behind a.at) c.operand.result c.operand.ensures
 
 pub returns : goal.returns

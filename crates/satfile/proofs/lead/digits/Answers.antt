@@ -4,11 +4,11 @@ use mathlib.Core.Path.{◌≡◌, refl, sym, ap, ◌∙◌}
 use mathlib.Core.Bool.{true}
 use Prim.Native.Nat.{ℕ, ◌-◌}
 use native.Mathlib.Omega.{arith}
-use borrow.Author.Tests.{not-true, not-false}
 use lib.ListN.{get_or}
-use Rattle.text.specs.Inner.Numbers.{is_digit, grown_of}
+use Rattle.text.specs.Inner.Numbers.{grown_of}
 use Rattle.satfile.proofs.Laws.Rests.{digits-end, digits_stop, digits_on, digits-wrong}
 use Rattle.satfile.proofs.lead.digits.Goals as goal
+use Rattle.satfile.proofs.lead.digits.Goals.{After-grown}
 
 pub returns-then-not-is_digit : goal.returns-then-not-is_digit
 returns-then-not-is_digit c =
@@ -17,10 +17,14 @@ returns-then-not-is_digit c =
       out =
           sym c.loop-i.invariant.2
           ∙ digits_stop a.text.now c.loop-i.i a.most c.loop-i.value c.loop-i-test.true
-          (sym c.is_digit.ensures ∙ not-true c.is_digit.result c.if-not-is_digit.true-raw);
+          (sym c.is_digit.ensures ∙ c.if-not-is_digit.true);
       onward = c.loop-i.invariant.0;
       within = c.loop-i.invariant.1;
     }
+
+-- the number that the digit makes
+grew : (c : After-grown) → grown_of true c.loop-i.value (get_or c.args.text.now c.loop-i.i 0 - 48) c.args.most ≡ c.grown.result
+grew c = ap (λ (x : ℕ). grown_of true c.loop-i.value x c.args.most) (sym c.digit_of.ensures) ∙ sym c.grown.ensures
 
 pub returns-in_default : goal.returns-in_default
 returns-in_default c =
@@ -29,7 +33,7 @@ returns-in_default c =
       out =
           sym c.loop-i.invariant.2
           ∙ digits-wrong a.text.now c.loop-i.i a.most c.loop-i.value c.loop-i-test.true
-          ((let is_one : is_digit ((let byte_of : ℕ = get_or c.args.text.now c.loop-i.i 0 in byte_of)) ≡ true = sym c.is_digit.ensures ∙ not-false c.is_digit.result c.if-not-is_digit.false-raw in is_one)) ((let grew : grown_of true c.loop-i.value ((let byte_of : ℕ = get_or c.args.text.now c.loop-i.i 0 in byte_of) - 48) c.args.most ≡ c.grown.result = ap (λ (x : ℕ). grown_of true c.loop-i.value x c.args.most) (sym c.digit_of.ensures) ∙ sym c.grown.ensures in grew) ∙ c.in_default.is);
+          (sym c.is_digit.ensures ∙ c.if-not-is_digit.false) (grew (goal.at.returns-in_default c).After-grown ∙ c.in_default.is);
       within = c.loop-i.invariant.1;
     }
 
@@ -39,7 +43,7 @@ loop-i-preserved c =
       omega (arith, c.loop-i.invariant.0),
       omega (arith, c.loop-i-test.true),
       sym (digits_on a.text.now c.loop-i.i a.most c.loop-i.value c.loop-i-test.true c.in-Is.more
-          ((let is_one : is_digit ((let byte_of : ℕ = get_or c.args.text.now c.loop-i.i 0 in byte_of)) ≡ true = sym c.is_digit.ensures ∙ not-false c.is_digit.result c.if-not-is_digit.false-raw in is_one)) ((let grew : grown_of true c.loop-i.value ((let byte_of : ℕ = get_or c.args.text.now c.loop-i.i 0 in byte_of) - 48) c.args.most ≡ c.grown.result = ap (λ (x : ℕ). grown_of true c.loop-i.value x c.args.most) (sym c.digit_of.ensures) ∙ sym c.grown.ensures in grew) ∙ c.in-Is.is))
+          (sym c.is_digit.ensures ∙ c.if-not-is_digit.false) (grew (goal.at.loop-i-preserved c).After-grown ∙ c.in-Is.is))
           ∙ c.loop-i.invariant.2,
     )
 

@@ -1,9 +1,7 @@
 -- `satfile::lead::skip` meets its contract: white space is passed byte by byte. The invariant: what is left has the same text behind
 -- its white space. Assumes nothing.
 use mathlib.Core.Path.{refl, sym, ◌∙◌}
-use Prim.Native.Nat.{◌-◌}
 use native.Mathlib.Omega.{arith}
-use borrow.Author.Tests.{not-true, not-false}
 use Rattle.satfile.proofs.Laws.Rests.{skipped-end, skipped_stop, skipped_on}
 use Rattle.satfile.proofs.lead.skip.Goals as goal
 
@@ -12,7 +10,7 @@ returns-then-not-is_space c =
     record {
       rest =
           sym (skipped_stop c.args.text.now c.loop-i.i c.loop-i-test.true
-          (sym c.is_space.ensures ∙ not-true c.is_space.result c.if-not-is_space.true-raw))
+          (sym c.is_space.ensures ∙ c.if-not-is_space.true))
           ∙ c.loop-i.invariant.2;
       onward = c.loop-i.invariant.0;
       within = c.loop-i.invariant.1;
@@ -24,7 +22,7 @@ loop-i-preserved c =
       omega (arith, c.loop-i.invariant.0),
       omega (arith, c.loop-i-test.true),
       sym (skipped_on c.args.text.now c.loop-i.i c.loop-i-test.true
-          (sym c.is_space.ensures ∙ not-false c.is_space.result c.if-not-is_space.false-raw))
+          (sym c.is_space.ensures ∙ c.if-not-is_space.false))
           ∙ c.loop-i.invariant.2,
     )
 

@@ -1,0 +1,85 @@
+-- `satfile::nested::formula` and `satfile::nested::list` meet their contracts: a formula is a symbol or a group; a group goes on, takes a
+-- member and has read it, or it ends and has its members. Assumes nothing.
+use Rattle.std.proofs.Common.{◌≡◌, refl, sym, ◌∙◌, true, false, ℕ, drop, arith}
+use Rattle.satfile.specs.Inner.Reads.{takes, ends_at}
+use Rattle.satfile.proofs.Laws.Begins.{leaf_done, open_told, formula-wrong}
+use Rattle.satfile.proofs.Laws.Turns.{group_start, takes_by, full_by, group_over, group_lacks, group_wrong, group_unparted}
+use Rattle.satfile.proofs.Laws.Turns.{group_next, ahead, group_done}
+use Rattle.satfile.proofs.nested.+formula_list.Goals as goal
+use Rattle.satfile.proofs.nested.+formula_list.Goals.{list-After-is_open, list-Else-not-is_open, list-Else-not-is_full}
+
+pub formula-returns-in-Symbol : goal.formula-returns-in-Symbol
+formula-returns-in-Symbol t c =
+    let a = c.args in leaf_done a.options a.depth a.text.now a.at _ _ c.in-Symbol.ensures c.leaf.ensures
+
+pub formula-returns-in-Open : goal.formula-returns-in-Open
+formula-returns-in-Open t c =
+    let a = c.args in
+    open_told a.options a.depth a.text.now a.at _ _ c.in-Open.ensures a.table.now _ a.next c.list.result c.list.ensures
+
+pub formula-returns-in-Wrong : goal.formula-returns-in-Wrong
+formula-returns-in-Wrong t c =
+    let a = c.args in
+    record {
+      at = record {
+        out = formula-wrong a.options a.depth (drop a.at a.text.now) _ c.in-Wrong.ensures.out;
+        within = c.in-Wrong.ensures.within;
+      };
+      same = refl;
+    }
+
+pub list-loop-group-init : goal.list-loop-group-init
+list-loop-group-init t c = group_start c.requires.within c.skip-i.ensures
+
+-- whether the group takes a member more
+taking : (t : ℕ) (c : list-After-is_open t) → c.is_open.result ≡ takes c.args.group c.loop-group.invariant.part
+taking t c = takes_by c.loop-group.invariant c.is_many-many.result c.is_open.result c.is_many-many.ensures c.is_open.ensures
+
+takes_one : (t : ℕ) (c : list-Else-not-is_open t) → takes c.args.group c.loop-group.invariant.part ≡ true
+takes_one t c = sym (taking t (goal.at.list-Else-not-is_open t c).After-is_open) ∙ c.if-not-is_open.false
+
+goes_on : (t : ℕ) (c : list-Else-not-is_open t) → ends_at c.args.group (drop c.loop-group.i c.args.text.now) ≡ false
+goes_on t c = sym c.is_end.ensures ∙ c.loop-group-test.true
+
+pub list-returns-then-not-is_open : goal.list-returns-then-not-is_open
+list-returns-then-not-is_open t c =
+    group_over c.loop-group.invariant (sym c.is_end.ensures ∙ c.loop-group-test.true)
+    (sym (taking t (goal.at.list-returns-then-not-is_open t c).After-is_open) ∙ c.if-not-is_open.true)
+
+-- a member
+pub list-returns-then-not-is_parted : goal.list-returns-then-not-is_parted
+list-returns-then-not-is_parted t c =
+    let else = (goal.at.list-returns-then-not-is_parted t c).Else-not-is_open in
+    group_unparted c.loop-group.invariant (goes_on t else) (takes_one t else) c.in-Done.ensures
+    (sym c.is_parted.ensures ∙ c.if-not-is_parted.true)
+
+pub list-loop-group-smaller : goal.list-loop-group-smaller
+list-loop-group-smaller t c =
+    let else = (goal.at.list-loop-group-smaller t c).Else-not-is_open in
+    let on = ahead c.loop-group.invariant (goes_on t else) (takes_one t else) c.in-Done.ensures in
+    omega (arith, on, c.skip-i-in-Done.ensures.onward, c.in-Done.ensures.to.within)
+
+pub list-loop-group-preserved : goal.list-loop-group-preserved
+list-loop-group-preserved t c =
+    let else = (goal.at.list-loop-group-preserved t c).Else-not-is_open in
+    group_next c.loop-group.invariant (goes_on t else) (takes_one t else) c.in-Done.ensures c.fold-behind.ensures
+    (sym c.is_parted.ensures ∙ c.if-not-is_parted.false) c.skip-i-in-Done.ensures
+
+pub list-returns-in-Wrong : goal.list-returns-in-Wrong
+list-returns-in-Wrong t c =
+    let else = (goal.at.list-returns-in-Wrong t c).Else-not-is_open in
+    group_wrong c.loop-group.invariant (goes_on t else) (takes_one t else) c.in-Wrong.ensures
+
+-- the group ends: whether it has its members
+pub list-returns-then-not-is_full : goal.list-returns-then-not-is_full
+list-returns-then-not-is_full t c =
+    group_lacks c.loop-group.invariant (sym c.is_end.ensures ∙ c.loop-group-test.false)
+    (sym (full_by c.loop-group.invariant c.is_many-many.result c.is_full.result c.is_many-many.ensures c.is_full.ensures)
+    ∙ c.if-not-is_full.true)
+
+pub list-returns : goal.list-returns
+list-returns t c =
+    group_done c.loop-group.invariant (sym c.is_end.ensures ∙ c.loop-group-test.false)
+    (sym (full_by c.loop-group.invariant c.is_many-many.result c.is_full.result c.is_many-many.ensures c.is_full.ensures)
+    ∙ c.if-not-is_full.false)
+    c.past-after.ensures c.end.ensures
