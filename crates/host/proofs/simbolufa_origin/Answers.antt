@@ -1,0 +1,27 @@
+-- `host::simbolufa_origin` meets its contract: a wrong answer part is looked at first, and the line is given. Assumes nothing.
+use mathlib.Core.List.{List}
+use Prim.Native.Nat.{ℕ}
+use Rattle.answer.specs.Answers.{Wrote}
+use Rattle.answer.proofs.Laws.Part.{leaves-wrong, leaves-right, part_right}
+use Rattle.origin.specs.Calls.{origin_call}
+use Rattle.host.proofs.simbolufa_origin.Goals.{Start}
+use Rattle.host.proofs.simbolufa_origin.Goals as goal
+
+abbrev wrote : Start → Wrote (List ℕ)
+wrote start =
+    let a = start.args in
+    origin_call a.table.now a.options a.set.now a.clause a.option_names.now a.helper_names.now a.line.now
+
+pub returns-then-is_part_wrong : goal.returns-then-is_part_wrong
+returns-then-is_part_wrong c =
+    leaves-wrong c.args.answer.now c.args.line.now (wrote (goal.at.returns-then-is_part_wrong c).Start) _ c.is_part_wrong.ensures c.if-is_part_wrong.true
+
+pub give-requires : goal.give-requires
+give-requires c =
+    part_right c.args.answer.now _ c.is_part_wrong.ensures c.if-is_part_wrong.false
+
+pub returns : goal.returns
+returns c =
+    leaves-right c.args.answer.now c.args.line.now (wrote (goal.at.returns c).Start)
+    (record { answer = c.origin.result; output = c.origin.new.line })
+    _ c.is_part_wrong.ensures c.if-is_part_wrong.false c.origin.ensures c.give.ensures
