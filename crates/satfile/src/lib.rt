@@ -1,5 +1,6 @@
 // The other DIMACS format: a `p sat` text, read as the table of its formula.
 #![tactic(auto)]
+
 mod lead;
 mod nested;
 mod table;

@@ -17,14 +17,13 @@ returns-then-not-is_space c =
     }
 
 pub loop-i-preserved : goal.loop-i-preserved
-loop-i-preserved c =
-    (
-      omega (arith, c.loop-i.invariant.0),
-      omega (arith, c.loop-i-test.true),
-      sym (skipped_on c.args.text.now c.loop-i.i c.loop-i-test.true
-          (sym c.is_space.ensures ∙ c.if-not-is_space.false))
-          ∙ c.loop-i.invariant.2,
-    )
+loop-i-preserved c = (
+  omega (arith, c.loop-i.invariant.0),
+  omega (arith, c.loop-i-test.true),
+  sym (skipped_on c.args.text.now c.loop-i.i c.loop-i-test.true
+      (sym c.is_space.ensures ∙ c.if-not-is_space.false))
+      ∙ c.loop-i.invariant.2,
+)
 
 pub returns : goal.returns
 returns c =
