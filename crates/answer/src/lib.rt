@@ -1,5 +1,6 @@
 // What a call answers: acceptance with two numbers, or one of the refusals; and the 16 bytes that tell a host of it.
 #![tactic(auto)]
+
 ghost use Rattle.std.specs.Prelude.{not, ◌≡◌, ◌+◌, ◌≤◌, eqb, length};
 ghost use Rattle.laws.specs.Lists.{splice};
 ghost use Rattle.laws.specs.Numbers.{cap, little};

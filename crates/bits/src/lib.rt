@@ -1,5 +1,6 @@
 // Rows of bits: bit n of a row is bit n % 8 of byte n / 8.
 #![tactic(auto)]
+
 ghost use Rattle.std.specs.Prelude.{◌≡◌, ◌*◌, ◌<◌, length};
 ghost use Rattle.bits.specs.Inner.Rows.{has_bit, byte_to, row_to};
 

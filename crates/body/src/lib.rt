@@ -1,5 +1,6 @@
 // The lines behind the header of a DIMACS text, read byte by byte: literals and zeros, counted against what the header declares.
 #![tactic(auto)]
+
 mod phase;
 mod state;
 

@@ -1,5 +1,6 @@
 // The classes of bytes in a DIMACS text, as a table of all 256: what a reader asks of a byte is one look into it.
 #![tactic(auto)]
+
 mod table;
 
 ghost use Rattle.std.specs.Prelude.{◌≡◌, eqb};

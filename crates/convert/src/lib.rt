@@ -1,3 +1,4 @@
 // Converting a formula to clause bytes.
 #![tactic(auto)]
+
 pub mod convert;

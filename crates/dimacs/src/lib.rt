@@ -1,5 +1,6 @@
 // DIMACS CNF: writing clause bytes as text, and reading text as clause bytes.
 #![tactic(auto)]
+
 mod copier;
 mod reader;
 mod writer;

@@ -1,4 +1,5 @@
 // The formula table: its nodes and its check.
 #![tactic(auto)]
+
 pub mod node;
 pub mod table;

@@ -1,5 +1,6 @@
 // The head of a DIMACS text, comments and a header line, for any word of three letters and one number or two.
 #![tactic(auto)]
+
 ghost use Rattle.std.specs.Prelude.{◌≡◌, ◌<◌, eqb};
 ghost use Rattle.text.specs.Inner.Numbers.{is_digit};
 ghost use Rattle.classes.specs.Inner.Classes.{table};

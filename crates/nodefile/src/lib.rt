@@ -1,5 +1,6 @@
 // The node file: lines of text that give the option count and the nodes of a formula table.
 #![tactic(auto)]
+
 mod line;
 
 ghost use Rattle.std.specs.Prelude.{◌≡◌};

@@ -13,9 +13,9 @@ ghost use Rattle.origin.specs.Inner.Pens.{Standing, Drawn};
 ghost use Rattle.origin.specs.Inner.Ways.{Startable};
 
 use crate::literal::{first, next};
+use crate::part::{Direction, Spot, find};
 use crate::pen::{Pen, put, put_decimal};
 use names::lookup::lookup;
-use crate::part::{Direction, Spot, find};
 
 // Puts a number in decimal and a tab.
 fn put_field(out: &mut [u8], pen: Pen, number: u32) -> Pen

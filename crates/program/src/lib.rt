@@ -1,5 +1,6 @@
 // What the program prints: a node file in, DIMACS text or the line of a refusal out.
 #![tactic(auto)]
+
 mod refusal;
 
 ghost use Rattle.std.specs.Prelude.{◌≡◌, ◌*◌, length};

@@ -1,5 +1,6 @@
 // Tidying clause bytes: literals that stand twice, tautologies and repeats are left out, and lines tell what went.
 #![tactic(auto)]
+
 mod pass;
 mod window;
 

@@ -1,5 +1,6 @@
 // The walk to clause k of a node, and its literals written.
 #![tactic(auto)]
+
 pub mod clause;
 pub mod count;
 pub mod step;

@@ -46,24 +46,24 @@ check-end-requires c =
 
 pub returns-then-not-is_accepted : goal.returns-then-not-is_accepted
 returns-then-not-is_accepted c =
-    read-refused ((let buffer-of : List ℕ = c.args.clauses.now in buffer-of)) ((let seen : Seen ((let text_of : List ℕ = c.args.text.now in text_of)) c.read-head.result c.check-end.result = record { head  = (let head : c.read-head.result ≡ head_of cnf ((let text_of : List ℕ = c.args.text.now in text_of)) = c.read-head.ensures ∙ ap (λ f. head_of f ((let text_of : List ℕ = c.args.text.now in text_of))) c.cnf_form.ensures in head); done = sym c.is_done.ensures ∙ not-false c.is_done.result c.if-not-is_done.false-raw; read = c.check-end.ensures ∙ ap (λ (s : State). state_from s ((let text_of : List ℕ = c.args.text.now in text_of)) s.place) c.start-start.ensures; } in seen))
+    read-refused ((let buffer-of : List ℕ = c.args.clauses.now in buffer-of)) ((let seen : Seen ((let text_of : List ℕ = c.args.text.now in text_of)) c.read-head.result c.check-end.result = record { head = (let head : c.read-head.result ≡ head_of cnf ((let text_of : List ℕ = c.args.text.now in text_of)) = c.read-head.ensures ∙ ap (λ f. head_of f ((let text_of : List ℕ = c.args.text.now in text_of))) c.cnf_form.ensures in head); done = sym c.is_done.ensures ∙ not-false c.is_done.result c.if-not-is_done.false-raw; read = c.check-end.ensures ∙ ap (λ (s : State). state_from s ((let text_of : List ℕ = c.args.text.now in text_of)) s.place) c.start-start.ensures } in seen))
     (sym c.is_accepted.ensures ∙ not-true c.is_accepted.result c.if-not-is_accepted.true-raw)
 
 pub returns-then-clauses-room : goal.returns-then-clauses-room
 returns-then-clauses-room c =
-    read_no_room ((let buffer-of : List ℕ = c.args.clauses.now in buffer-of)) ((let seen : Seen ((let text_of : List ℕ = c.args.text.now in text_of)) c.read-head.result c.check-end.result = record { head  = (let head : c.read-head.result ≡ head_of cnf ((let text_of : List ℕ = c.args.text.now in text_of)) = c.read-head.ensures ∙ ap (λ f. head_of f ((let text_of : List ℕ = c.args.text.now in text_of))) c.cnf_form.ensures in head); done = sym c.is_done.ensures ∙ not-false c.is_done.result c.if-not-is_done.false-raw; read = c.check-end.ensures ∙ ap (λ (s : State). state_from s ((let text_of : List ℕ = c.args.text.now in text_of)) s.place) c.start-start.ensures; } in seen)) ((let accepted : accepts c.check-end.result ≡ true = sym c.is_accepted.ensures ∙ not-false c.is_accepted.result c.if-not-is_accepted.false-raw in accepted)) (omega (arith, c.room.ensures, c.if-clauses-room.true))
+    read_no_room ((let buffer-of : List ℕ = c.args.clauses.now in buffer-of)) ((let seen : Seen ((let text_of : List ℕ = c.args.text.now in text_of)) c.read-head.result c.check-end.result = record { head = (let head : c.read-head.result ≡ head_of cnf ((let text_of : List ℕ = c.args.text.now in text_of)) = c.read-head.ensures ∙ ap (λ f. head_of f ((let text_of : List ℕ = c.args.text.now in text_of))) c.cnf_form.ensures in head); done = sym c.is_done.ensures ∙ not-false c.is_done.result c.if-not-is_done.false-raw; read = c.check-end.ensures ∙ ap (λ (s : State). state_from s ((let text_of : List ℕ = c.args.text.now in text_of)) s.place) c.start-start.ensures } in seen)) ((let accepted : accepts c.check-end.result ≡ true = sym c.is_accepted.ensures ∙ not-false c.is_accepted.result c.if-not-is_accepted.false-raw in accepted)) (omega (arith, c.room.ensures, c.if-clauses-room.true))
 
 pub copy-requires : goal.copy-requires
 copy-requires c =
     record {
       table = c.classes-classes.ensures;
-      accepted  = ap accepts (sym ((let seen : Seen ((let text_of : List ℕ = c.args.text.now in text_of)) c.read-head.result c.check-end.result = record { head  = (let head : c.read-head.result ≡ head_of cnf ((let text_of : List ℕ = c.args.text.now in text_of)) = c.read-head.ensures ∙ ap (λ f. head_of f ((let text_of : List ℕ = c.args.text.now in text_of))) c.cnf_form.ensures in head); done = sym c.is_done.ensures ∙ not-false c.is_done.result c.if-not-is_done.false-raw; read = c.check-end.ensures ∙ ap (λ (s : State). state_from s ((let text_of : List ℕ = c.args.text.now in text_of)) s.place) c.start-start.ensures; } in seen)).read) ∙ (let accepted : accepts c.check-end.result ≡ true = sym c.is_accepted.ensures ∙ not-false c.is_accepted.result c.if-not-is_accepted.false-raw in accepted);
-      room  = read-room ((let buffer-of : List ℕ = c.args.clauses.now in buffer-of)) ((let seen : Seen ((let text_of : List ℕ = c.args.text.now in text_of)) c.read-head.result c.check-end.result = record { head  = (let head : c.read-head.result ≡ head_of cnf ((let text_of : List ℕ = c.args.text.now in text_of)) = c.read-head.ensures ∙ ap (λ f. head_of f ((let text_of : List ℕ = c.args.text.now in text_of))) c.cnf_form.ensures in head); done = sym c.is_done.ensures ∙ not-false c.is_done.result c.if-not-is_done.false-raw; read = c.check-end.ensures ∙ ap (λ (s : State). state_from s ((let text_of : List ℕ = c.args.text.now in text_of)) s.place) c.start-start.ensures; } in seen)) ((let accepted : accepts c.check-end.result ≡ true = sym c.is_accepted.ensures ∙ not-false c.is_accepted.result c.if-not-is_accepted.false-raw in accepted)) ((let room : room_of c.read-head.result.value c.check-end.result.literals ≤ length ((let buffer-of : List ℕ = c.args.clauses.now in buffer-of)) = omega (arith, c.room.ensures, c.if-clauses-room.false) in room));
+      accepted = ap accepts (sym ((let seen : Seen ((let text_of : List ℕ = c.args.text.now in text_of)) c.read-head.result c.check-end.result = record { head = (let head : c.read-head.result ≡ head_of cnf ((let text_of : List ℕ = c.args.text.now in text_of)) = c.read-head.ensures ∙ ap (λ f. head_of f ((let text_of : List ℕ = c.args.text.now in text_of))) c.cnf_form.ensures in head); done = sym c.is_done.ensures ∙ not-false c.is_done.result c.if-not-is_done.false-raw; read = c.check-end.ensures ∙ ap (λ (s : State). state_from s ((let text_of : List ℕ = c.args.text.now in text_of)) s.place) c.start-start.ensures } in seen)).read) ∙ (let accepted : accepts c.check-end.result ≡ true = sym c.is_accepted.ensures ∙ not-false c.is_accepted.result c.if-not-is_accepted.false-raw in accepted);
+      room = read-room ((let buffer-of : List ℕ = c.args.clauses.now in buffer-of)) ((let seen : Seen ((let text_of : List ℕ = c.args.text.now in text_of)) c.read-head.result c.check-end.result = record { head = (let head : c.read-head.result ≡ head_of cnf ((let text_of : List ℕ = c.args.text.now in text_of)) = c.read-head.ensures ∙ ap (λ f. head_of f ((let text_of : List ℕ = c.args.text.now in text_of))) c.cnf_form.ensures in head); done = sym c.is_done.ensures ∙ not-false c.is_done.result c.if-not-is_done.false-raw; read = c.check-end.ensures ∙ ap (λ (s : State). state_from s ((let text_of : List ℕ = c.args.text.now in text_of)) s.place) c.start-start.ensures } in seen)) ((let accepted : accepts c.check-end.result ≡ true = sym c.is_accepted.ensures ∙ not-false c.is_accepted.result c.if-not-is_accepted.false-raw in accepted)) ((let room : room_of c.read-head.result.value c.check-end.result.literals ≤ length ((let buffer-of : List ℕ = c.args.clauses.now in buffer-of)) = omega (arith, c.room.ensures, c.if-clauses-room.false) in room));
     }
 
 pub returns : goal.returns
 returns c =
-    read-accepted ((let buffer-of : List ℕ = c.args.clauses.now in buffer-of)) ((let seen : Seen ((let text_of : List ℕ = c.args.text.now in text_of)) c.read-head.result c.check-end.result = record { head  = (let head : c.read-head.result ≡ head_of cnf ((let text_of : List ℕ = c.args.text.now in text_of)) = c.read-head.ensures ∙ ap (λ f. head_of f ((let text_of : List ℕ = c.args.text.now in text_of))) c.cnf_form.ensures in head); done = sym c.is_done.ensures ∙ not-false c.is_done.result c.if-not-is_done.false-raw; read = c.check-end.ensures ∙ ap (λ (s : State). state_from s ((let text_of : List ℕ = c.args.text.now in text_of)) s.place) c.start-start.ensures; } in seen)) ((let accepted : accepts c.check-end.result ≡ true = sym c.is_accepted.ensures ∙ not-false c.is_accepted.result c.if-not-is_accepted.false-raw in accepted)) ((let room : room_of c.read-head.result.value c.check-end.result.literals ≤ length ((let buffer-of : List ℕ = c.args.clauses.now in buffer-of)) = omega (arith, c.room.ensures, c.if-clauses-room.false) in room)) c.copy.ensures
+    read-accepted ((let buffer-of : List ℕ = c.args.clauses.now in buffer-of)) ((let seen : Seen ((let text_of : List ℕ = c.args.text.now in text_of)) c.read-head.result c.check-end.result = record { head = (let head : c.read-head.result ≡ head_of cnf ((let text_of : List ℕ = c.args.text.now in text_of)) = c.read-head.ensures ∙ ap (λ f. head_of f ((let text_of : List ℕ = c.args.text.now in text_of))) c.cnf_form.ensures in head); done = sym c.is_done.ensures ∙ not-false c.is_done.result c.if-not-is_done.false-raw; read = c.check-end.ensures ∙ ap (λ (s : State). state_from s ((let text_of : List ℕ = c.args.text.now in text_of)) s.place) c.start-start.ensures } in seen)) ((let accepted : accepts c.check-end.result ≡ true = sym c.is_accepted.ensures ∙ not-false c.is_accepted.result c.if-not-is_accepted.false-raw in accepted)) ((let room : room_of c.read-head.result.value c.check-end.result.literals ≤ length ((let buffer-of : List ℕ = c.args.clauses.now in buffer-of)) = omega (arith, c.room.ensures, c.if-clauses-room.false) in room)) c.copy.ensures
 
 pub slice_bounds-copy-end : goal.slice_bounds-copy-end
 slice_bounds-copy-end c =

@@ -28,6 +28,9 @@ give-requires c =
 
 pub returns : goal.returns
 returns c =
-    record { settled = leaves-right c.args.answer.now (lent_of (goal.at.returns c).Start) (wrote (goal.at.returns c).Start)
+    record {
+      settled = leaves-right c.args.answer.now (lent_of (goal.at.returns c).Start) (wrote (goal.at.returns c).Start)
           (record { answer = c.tidy.result; output = record { kept = c.tidy.new.out; lines = c.tidy.new.changes } })
-          _ c.is_part_wrong.ensures c.if-is_part_wrong.false c.tidy.ensures c.give.ensures; bytes = lent (goal.at.returns c).After-is_part_wrong }
+          _ c.is_part_wrong.ensures c.if-is_part_wrong.false c.tidy.ensures c.give.ensures;
+      bytes = lent (goal.at.returns c).After-is_part_wrong;
+    }

@@ -26,6 +26,9 @@ give-requires c =
 
 pub returns : goal.returns
 returns c =
-    record { settled = leaves-right c.args.answer.now c.args.text.now (wrote (goal.at.returns c).Start)
+    record {
+      settled = leaves-right c.args.answer.now c.args.text.now (wrote (goal.at.returns c).Start)
           (record { answer = c.write.result; output = c.write.new.text })
-          _ c.is_part_wrong.ensures c.if-is_part_wrong.false c.write.ensures c.give.ensures; bytes = lent (goal.at.returns c).After-shared_slice_known-1 }
+          _ c.is_part_wrong.ensures c.if-is_part_wrong.false c.write.ensures c.give.ensures;
+      bytes = lent (goal.at.returns c).After-shared_slice_known-1;
+    }

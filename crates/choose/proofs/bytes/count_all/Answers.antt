@@ -18,7 +18,7 @@ unfolding renamed_below
 loop-i-init c = (omega arith, refl)
 
 pub byte_at-requires : goal.byte_at-requires
-byte_at-requires c = record { marked  = c.requires; inside = omega arith }
+byte_at-requires c = record { marked = c.requires; inside = omega arith }
 
 pub overflow_cast-all : goal.overflow_cast-all
 overflow_cast-all c =

@@ -37,7 +37,7 @@ loop-i-init c = record { within = omega arith; size = refl; bytes = λ j g. absu
 
 pub byte_at-requires : goal.byte_at-requires
 byte_at-requires c =
-    record { marked  = c.requires.marked; inside = omega (arith, c.loop-i.invariant.size, c.requires.size) }
+    record { marked = c.requires.marked; inside = omega (arith, c.loop-i.invariant.size, c.requires.size) }
 
 pub loop-i-preserved : goal.loop-i-preserved
 loop-i-preserved c =

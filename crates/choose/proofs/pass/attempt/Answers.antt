@@ -88,7 +88,7 @@ overflow_add-result c =
     let a = c.args in
     let pre = c.requires.visitable in
     record {
-      fits  = omega (
+      fits = omega (
         arith,
         pre.stands.counted,
         below_le a.set.now (length (nodes_of a.table.now)),

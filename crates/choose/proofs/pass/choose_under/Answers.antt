@@ -18,7 +18,7 @@ choose_marked-picked-requires c =
     record {
       marked = record { size = c.requires.size; are = c.mark_all.ensures };
       below = c.requires.below;
-      begins = λ j. record { picks = 0; chosen  = empty j };
+      begins = λ j. record { picks = 0; chosen = empty j };
     }
 
 pub returns : goal.returns

@@ -64,10 +64,10 @@ loop-i-preserved c =
       l.invariant.2,
       omega arith,
       elim c.if-word-eq0.branch [
-      then-word-eq0+else-clauses-ge-MOST_CLAUSES w ↦ rw (w.closed-is, w.clauses-is, w.literals-is)
-          (checking_zero x.bytes.now x.variables c.word_at-word.result ((let ahead : let l = c.loop-i in let x = c.args in Checking x.variables (words_of x.bytes.now) (c.word_at-word.result ∷ drop (l.i + 1) (words_of x.bytes.now)) l.closed l.clauses l.literals = let l = c.loop-i in let x = c.args in subst (λ (r : List ℕ). Checking x.variables (words_of x.bytes.now) r l.closed l.clauses l.literals) (words_next x.bytes.now l.i c.word_at-word.result (omega arith) c.word_at-word.ensures) l.invariant.4 in ahead)) w.if-word-eq0.true w.if-clauses-ge-MOST_CLAUSES.false)
-    | else-word-eq0+else-magnitude-variables+else-literals-ge-MOST_LITERALS w ↦ let m = rw w.magnitude.ensures at w.if-magnitude-variables.false in
-          rw (w.closed-is, w.clauses-is, w.literals-is)
-          (checking_literal x.bytes.now x.variables c.word_at-word.result ((let ahead : let l = c.loop-i in let x = c.args in Checking x.variables (words_of x.bytes.now) (c.word_at-word.result ∷ drop (l.i + 1) (words_of x.bytes.now)) l.closed l.clauses l.literals = let l = c.loop-i in let x = c.args in subst (λ (r : List ℕ). Checking x.variables (words_of x.bytes.now) r l.closed l.clauses l.literals) (words_next x.bytes.now l.i c.word_at-word.result (omega arith) c.word_at-word.ensures) l.invariant.4 in ahead)) w.if-word-eq0.false m w.if-literals-ge-MOST_LITERALS.false)
-    ],
+        | then-word-eq0+else-clauses-ge-MOST_CLAUSES w ↦ rw (w.closed-is, w.clauses-is, w.literals-is)
+            (checking_zero x.bytes.now x.variables c.word_at-word.result ((let ahead : let l = c.loop-i in let x = c.args in Checking x.variables (words_of x.bytes.now) (c.word_at-word.result ∷ drop (l.i + 1) (words_of x.bytes.now)) l.closed l.clauses l.literals = let l = c.loop-i in let x = c.args in subst (λ (r : List ℕ). Checking x.variables (words_of x.bytes.now) r l.closed l.clauses l.literals) (words_next x.bytes.now l.i c.word_at-word.result (omega arith) c.word_at-word.ensures) l.invariant.4 in ahead)) w.if-word-eq0.true w.if-clauses-ge-MOST_CLAUSES.false)
+        | else-word-eq0+else-magnitude-variables+else-literals-ge-MOST_LITERALS w ↦ let m = rw w.magnitude.ensures at w.if-magnitude-variables.false in
+            rw (w.closed-is, w.clauses-is, w.literals-is)
+            (checking_literal x.bytes.now x.variables c.word_at-word.result ((let ahead : let l = c.loop-i in let x = c.args in Checking x.variables (words_of x.bytes.now) (c.word_at-word.result ∷ drop (l.i + 1) (words_of x.bytes.now)) l.closed l.clauses l.literals = let l = c.loop-i in let x = c.args in subst (λ (r : List ℕ). Checking x.variables (words_of x.bytes.now) r l.closed l.clauses l.literals) (words_next x.bytes.now l.i c.word_at-word.result (omega arith) c.word_at-word.ensures) l.invariant.4 in ahead)) w.if-word-eq0.false m w.if-literals-ge-MOST_LITERALS.false)
+      ],
     )

@@ -35,17 +35,17 @@ byte c = get_or (text c) c.loop-i.i 0
 
 same : (c : At-loop-i) → length c.loop-i.out ≡ length c.args.out.now
 same c = copied_length (text c) (begin c) c.args.out.now c.requires.room (pen c) c.loop-i.i c.loop-i.at c.loop-i.out
-      c.loop-i.invariant
+    c.loop-i.invariant
 
 room : (c : At-loop-i) → c.loop-i.i < length (text c) → c.loop-i.at + length (written (ends_word (pen c) (byte c)) (pen_bytes (pen c))) ≤ length c.loop-i.out
 room c = copied_room (text c) (begin c) c.args.out.now c.requires.room (pen c) c.loop-i.i c.loop-i.at c.loop-i.out
-        c.loop-i.invariant
+    c.loop-i.invariant
 
 more : (c : At-loop-i) → c.loop-i.i < length (text c) → (p : Pen) (n : ℕ) (m : List ℕ) → p ≡ pen_of (pen c) (byte c)
-        → Stored (written (ends_word (pen c) (byte c)) (pen_bytes (pen c))) c.loop-i.out c.loop-i.at n m
-        → Copied (text c) (begin c) c.args.out.now p (c.loop-i.i + 1) n m
+    → Stored (written (ends_word (pen c) (byte c)) (pen_bytes (pen c))) c.loop-i.out c.loop-i.at n m
+    → Copied (text c) (begin c) c.args.out.now p (c.loop-i.i + 1) n m
 more c = copied_next (text c) (begin c) c.args.out.now c.requires.room (pen c) c.loop-i.i c.loop-i.at c.loop-i.out
-        c.loop-i.invariant
+    c.loop-i.invariant
 
 inside : (c : After-is_digit) → c.loop-i.i < length (text (goal.at.After-is_digit c).At-loop-i)
 inside c = c.loop-i-test.true

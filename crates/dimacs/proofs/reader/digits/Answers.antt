@@ -20,7 +20,7 @@ returns-then-not-is_digit c =
     record {
       leads = l.invariant.0;
       next = inr l.invariant.1;
-      stops  = λ _ _. sym c.is_digit.ensures ∙ not-true c.is_digit.result c.if-not-is_digit.true-raw;
+      stops = λ _ _. sym c.is_digit.ensures ∙ not-true c.is_digit.result c.if-not-is_digit.true-raw;
     }
 
 pub grow-state-requires : goal.grow-state-requires
@@ -33,7 +33,7 @@ grow-state-requires c =
 pub returns-then-is_dead : goal.returns-then-is_dead
 returns-then-is_dead c =
     let e = sym c.is_dead.ensures ∙ c.if-is_dead.true in
-    record { leads = (let grown : Leads c.args.text.now c.args.start c.grow-state.result = leads_on c.loop-state.invariant.0 (digit-leads c.args.text.now c.loop-state.state c.grow-state.result c.loop-state-test.true c.loop-state.invariant.1 ((let is : is_digit (class_of (next_in c.args.text.now c.loop-state.state)) ≡ true = sym c.is_digit.ensures ∙ not-false c.is_digit.result c.if-not-is_digit.false-raw in is)) c.grow-state.ensures) in grown); next = inl e; stops  = λ f _. absurd (false≢true (sym f ∙ e)) }
+    record { leads = (let grown : Leads c.args.text.now c.args.start c.grow-state.result = leads_on c.loop-state.invariant.0 (digit-leads c.args.text.now c.loop-state.state c.grow-state.result c.loop-state-test.true c.loop-state.invariant.1 ((let is : is_digit (class_of (next_in c.args.text.now c.loop-state.state)) ≡ true = sym c.is_digit.ensures ∙ not-false c.is_digit.result c.if-not-is_digit.false-raw in is)) c.grow-state.ensures) in grown); next = inl e; stops = λ f _. absurd (false≢true (sym f ∙ e)) }
 
 pub loop-state-smaller : goal.loop-state-smaller
 loop-state-smaller c =
@@ -46,17 +46,16 @@ loop-state-smaller c =
     )
 
 pub loop-state-preserved : goal.loop-state-preserved
-loop-state-preserved c =
-    (
-      (let grown : Leads c.args.text.now c.args.start c.grow-state.result = leads_on c.loop-state.invariant.0 (digit-leads c.args.text.now c.loop-state.state c.grow-state.result c.loop-state-test.true c.loop-state.invariant.1 ((let is : is_digit (class_of (next_in c.args.text.now c.loop-state.state)) ≡ true = sym c.is_digit.ensures ∙ not-false c.is_digit.result c.if-not-is_digit.false-raw in is)) c.grow-state.ensures) in grown),
-      digit-number c.args.text.now c.loop-state.state c.grow-state.result c.loop-state-test.true
-          c.loop-state.invariant.1 ((let is : is_digit (class_of (next_in c.args.text.now c.loop-state.state)) ≡ true = sym c.is_digit.ensures ∙ not-false c.is_digit.result c.if-not-is_digit.false-raw in is)) c.grow-state.ensures ((let live : is_dead c.grow-state.result.phase ≡ false = sym c.is_dead.ensures ∙ c.if-is_dead.false in live)),
-    )
+loop-state-preserved c = (
+  (let grown : Leads c.args.text.now c.args.start c.grow-state.result = leads_on c.loop-state.invariant.0 (digit-leads c.args.text.now c.loop-state.state c.grow-state.result c.loop-state-test.true c.loop-state.invariant.1 ((let is : is_digit (class_of (next_in c.args.text.now c.loop-state.state)) ≡ true = sym c.is_digit.ensures ∙ not-false c.is_digit.result c.if-not-is_digit.false-raw in is)) c.grow-state.ensures) in grown),
+  digit-number c.args.text.now c.loop-state.state c.grow-state.result c.loop-state-test.true
+      c.loop-state.invariant.1 ((let is : is_digit (class_of (next_in c.args.text.now c.loop-state.state)) ≡ true = sym c.is_digit.ensures ∙ not-false c.is_digit.result c.if-not-is_digit.false-raw in is)) c.grow-state.ensures ((let live : is_dead c.grow-state.result.phase ≡ false = sym c.is_dead.ensures ∙ c.if-is_dead.false in live)),
+)
 
 pub returns : goal.returns
 returns c =
     let l = c.loop-state in
-    record { leads = l.invariant.0; next = inr l.invariant.1; stops  = λ _ h. absurd (omega (arith, h, c.loop-state-test.false)) }
+    record { leads = l.invariant.0; next = inr l.invariant.1; stops = λ _ h. absurd (omega (arith, h, c.loop-state-test.false)) }
 
 pub loop-state-init : goal.loop-state-init
 loop-state-init c =

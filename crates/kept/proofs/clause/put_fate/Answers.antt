@@ -53,8 +53,7 @@ put_clause-requires c =
     }
 
 pub returns : goal.returns
-returns c =
-    (
-      fate_drawn c.args.clause (clause-of (goal.at.returns c).Start) (is-kept (goal.at.returns c).Else-first-clause) c.put_clause.ensures.0,
-      c.put_clause.ensures.1 ∙ c.is_tautology.ensures.1,
-    )
+returns c = (
+  fate_drawn c.args.clause (clause-of (goal.at.returns c).Start) (is-kept (goal.at.returns c).Else-first-clause) c.put_clause.ensures.0,
+  c.put_clause.ensures.1 ∙ c.is_tautology.ensures.1,
+)

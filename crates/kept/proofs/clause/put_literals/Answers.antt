@@ -77,13 +77,12 @@ put_literal-drawn-requires c =
     c.if-word-eq0.false c.code-n.result c.code-n.ensures c.has-seen.result c.has-seen.ensures
 
 pub loop-i-preserved : goal.loop-i-preserved
-loop-i-preserved c =
-    (
-      refl,
-      spelling_more c.loop-i.invariant.1 c.requires.drawable c.word_at-word.result (omega arith) (here (goal.at.loop-i-preserved c).After-has-seen) c.word_at-word.ensures
-          c.if-word-eq0.false c.code-n.result c.code-n.ensures c.has-seen.result c.has-seen.ensures (small (goal.at.loop-i-preserved c).Else-word-eq0)
-          c.put_literal-drawn.ensures _ c.put.ensures,
-    )
+loop-i-preserved c = (
+  refl,
+  spelling_more c.loop-i.invariant.1 c.requires.drawable c.word_at-word.result (omega arith) (here (goal.at.loop-i-preserved c).After-has-seen) c.word_at-word.ensures
+      c.if-word-eq0.false c.code-n.result c.code-n.ensures c.has-seen.result c.has-seen.ensures (small (goal.at.loop-i-preserved c).Else-word-eq0)
+      c.put_literal-drawn.ensures _ c.put.ensures,
+)
 
 pub shape_of-out-then-word-eq0 : goal.shape_of-out-then-word-eq0
 shape_of-out-then-word-eq0 c =

@@ -9,12 +9,11 @@ use Rattle.marks.proofs.mark.mark_all.Goals.{Start}
 use Rattle.marks.proofs.mark.mark_all.Goals as goal
 
 pub loop-i-init : goal.loop-i-init
-loop-i-init c =
-    (
-      omega arith,
-      passing_start c.args.table.now c.args.marks.now c.requires.zeros
-          (omega (arith, c.requires.size.some)) (omega (arith, c.requires.size.most)),
-    )
+loop-i-init c = (
+  omega arith,
+  passing_start c.args.table.now c.args.marks.now c.requires.zeros
+      (omega (arith, c.requires.size.some)) (omega (arith, c.requires.size.most)),
+)
 
 pub loop-i-preserved : goal.loop-i-preserved
 loop-i-preserved c =

@@ -34,7 +34,7 @@ overflow_add-at c =
 pub loop-i-init : goal.loop-i-init
 loop-i-init c =
     elim c.if-i-last.branch [
-      then-i-last+then-last-j w ↦
-        (omega (arith, w.i-is, w.if-last-j.true), reached-last c.requires w.if-last-j.true w.i-is w.at-is)
-    | else-i-last w ↦ (omega (arith, w.i-is), reached_block c.requires w.i-is w.at-is)
+      | then-i-last+then-last-j w ↦
+          (omega (arith, w.i-is, w.if-last-j.true), reached-last c.requires w.if-last-j.true w.i-is w.at-is)
+      | else-i-last w ↦ (omega (arith, w.i-is), reached_block c.requires w.i-is w.at-is)
     ]

@@ -11,11 +11,14 @@ put_helper-front-requires c =
 
 pub put_own-own-requires : goal.put_own-own-requires
 put_own-own-requires c =
-    let a = c.args in record { startable = own-start a.table.now.now a.clauses.now a.literals.now a.helpers.now a.option_names.now
+    let a = c.args in record {
+      startable = own-start a.table.now.now a.clauses.now a.literals.now a.helpers.now a.option_names.now
           a.helper_names.now a.options a.option_notes.now a.helper_notes.now a.out.now a.spot a.pen c.requires _
-          c.is_positive-sign.ensures; voiced = own-voiced a.table.now.now a.clauses.now a.literals.now a.helpers.now a.option_names.now
+          c.is_positive-sign.ensures;
+      voiced = own-voiced a.table.now.now a.clauses.now a.literals.now a.helpers.now a.option_names.now
           a.helper_names.now a.options a.option_notes.now a.helper_notes.now a.out.now a.spot a.pen c.requires _
-          c.is_positive-sign.ensures _ _ _ _ c.put_helper-front.ensures }
+          c.is_positive-sign.ensures _ _ _ _ c.put_helper-front.ensures;
+    }
 
 pub put_helper-requires : goal.put_helper-requires
 put_helper-requires c =

@@ -28,19 +28,25 @@ pub wait-next-requires : goal.wait-next-requires
 wait-next-requires c =
     let a = c.args in
     let l = open-leads a.table.now.now a.clauses.now a.literals.now a.helpers.now a.ways.now a.depth a.way
-    c.requires c.unpack-step.result Both (c.unpack-step.ensures ∙ c.lead.ensures.back) c.in-Both.is in record { packable = record {
+    c.requires c.unpack-step.result Both (c.unpack-step.ensures ∙ c.lead.ensures.back) c.in-Both.is in record {
+      packable = record {
         node = omega (arith, l.0.before, l.1.before, c.requires.room);
         k = omega (arith, l.0.has, l.0.short, l.1.has, l.1.short);
-      }; depth_bound = omega (arith, c.requires.room) }
+      };
+      depth_bound = omega (arith, c.requires.room);
+    }
 
 pub wait-requires-in-Both : goal.wait-requires-in-Both
 wait-requires-in-Both c =
     let a = c.args in
     let l = open-leads a.table.now.now a.clauses.now a.literals.now a.helpers.now a.ways.now a.depth a.way
-    c.requires c.unpack-step.result Both (c.unpack-step.ensures ∙ c.lead.ensures.back) c.in-Both.is in record { packable = record {
+    c.requires c.unpack-step.result Both (c.unpack-step.ensures ∙ c.lead.ensures.back) c.in-Both.is in record {
+      packable = record {
         node = omega (arith, l.0.before, l.1.before, c.requires.room);
         k = omega (arith, l.0.has, l.0.short, l.1.has, l.1.short);
-      }; depth_bound = omega (arith, c.wait-next.ensures.place, l.0.before, l.1.before, c.requires.room) }
+      };
+      depth_bound = omega (arith, c.wait-next.ensures.place, l.0.before, l.1.before, c.requires.room);
+    }
 
 -- what is left
 pub returns-in-Nothing : goal.returns-in-Nothing

@@ -111,9 +111,9 @@ loop-i-preserved c =
       refl,
       subst⁻¹ (λ (r : List ℕ). Marking x.bytes.now x.from (c.loop-i.i + 1) r (literal (goal.at.loop-i-preserved c).After-has ∷ c.loop-i.invariant.0)) row k,
       elim c.if-not-has.branch [
-      then-not-has w ↦ w.sign-is ∙ new (goal.at.loop-i-preserved c).After-has w.mix-sign.result w.mix-sign.ensures w.if-not-has.true-raw
-    | else-not-has w ↦ w.sign-is ∙ old (goal.at.loop-i-preserved c).After-has w.if-not-has.false-raw
-    ],
+        | then-not-has w ↦ w.sign-is ∙ new (goal.at.loop-i-preserved c).After-has w.mix-sign.result w.mix-sign.ensures w.if-not-has.true-raw
+        | else-not-has w ↦ w.sign-is ∙ old (goal.at.loop-i-preserved c).After-has w.if-not-has.false-raw
+      ],
     )
 
 pub returns : goal.returns

@@ -26,8 +26,8 @@ pub loop-i-preserved : goal.loop-i-preserved
 loop-i-preserved c =
     let l = c.loop-i in
     elim c.if-power-number.branch [
-      then-power-number w ↦
-        rw w.digits-is (omega arith, omega arith, omega (arith, l.invariant.2), widening_more l.invariant.3 w.if-power-number.true)
-    | else-power-number w ↦
-        rw w.digits-is (omega arith, omega arith, omega (arith, l.invariant.2), widening_same l.invariant.3 l.invariant.0 w.if-power-number.false)
+      | then-power-number w ↦
+          rw w.digits-is (omega arith, omega arith, omega (arith, l.invariant.2), widening_more l.invariant.3 w.if-power-number.true)
+      | else-power-number w ↦
+          rw w.digits-is (omega arith, omega arith, omega (arith, l.invariant.2), widening_same l.invariant.3 l.invariant.0 w.if-power-number.false)
     ]

@@ -25,12 +25,11 @@ put_fate-drawn-requires c =
     }
 
 pub loop-i-preserved : goal.loop-i-preserved
-loop-i-preserved c =
-    (
-      passing_next c.requires c.loop-i.invariant.0 c.loop-i-test.true c.put_fate-drawn.ensures.0
-          c.end_of-at.result c.end_of-at.ensures,
-      c.put_fate-drawn.ensures.1 ∙ c.loop-i.invariant.1,
-    )
+loop-i-preserved c = (
+  passing_next c.requires c.loop-i.invariant.0 c.loop-i-test.true c.put_fate-drawn.ensures.0
+      c.end_of-at.result c.end_of-at.ensures,
+  c.put_fate-drawn.ensures.1 ∙ c.loop-i.invariant.1,
+)
 
 -- the next place is not far behind the bytes
 pub overflow_add-at : goal.overflow_add-at

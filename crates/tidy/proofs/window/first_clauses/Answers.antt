@@ -35,14 +35,13 @@ row_last c = c.search-found-2.ensures.1 ∙ c.loop-seed.invariant.1
 
 -- a search that is not given up
 pub returns-then-found : goal.returns-then-found
-returns-then-found c =
-    (
-      record {
-        seed_few = c.loop-seed.invariant.0;
-        firsts_are = c.search-found.ensures.0.firsts_are c.if-found.true;
-      },
-      row-after (goal.at.returns-then-found c).After-search-found,
-    )
+returns-then-found c = (
+  record {
+    seed_few = c.loop-seed.invariant.0;
+    firsts_are = c.search-found.ensures.0.firsts_are c.if-found.true;
+  },
+  row-after (goal.at.returns-then-found c).After-search-found,
+)
 
 -- the search with the last seed
 pub returns : goal.returns

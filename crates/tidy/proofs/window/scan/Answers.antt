@@ -48,10 +48,10 @@ loop-i-preserved c =
     let l = c.loop-i in
     let inside = c.loop-i-test.true in
     elim c.if-slot-here.branch [
-      then-slot-here w ↦ rw (w.firsts-is, w.row-is, w.left-is)
-    (scanning_looked given l.invariant.0 inside _ w.first_after-first.ensures.0 _ w.open-left.ensures, w.first_after-first.ensures.1 ∙ l.invariant.1, l.invariant.2)
-    | else-slot-here w ↦ rw (w.firsts-is, w.row-is, w.left-is)
-    (scanning_other given l.invariant.0 inside (λ q. w.if-slot-here.false (c.slot.ensures ∙ q ∙ sym l.invariant.2)), l.invariant.1, l.invariant.2)
+      | then-slot-here w ↦ rw (w.firsts-is, w.row-is, w.left-is)
+          (scanning_looked given l.invariant.0 inside _ w.first_after-first.ensures.0 _ w.open-left.ensures, w.first_after-first.ensures.1 ∙ l.invariant.1, l.invariant.2)
+      | else-slot-here w ↦ rw (w.firsts-is, w.row-is, w.left-is)
+          (scanning_other given l.invariant.0 inside (λ q. w.if-slot-here.false (c.slot.ensures ∙ q ∙ sym l.invariant.2)), l.invariant.1, l.invariant.2)
     ]
 
 -- no clause without a number has the slot: it is taken out

@@ -16,8 +16,8 @@ note-requires c =
     record {
       ready = p.ready;
       long = p.long;
-      start  = omega (arith, p.place_is, place-low c.args.bytes.now c.args.start, p.within, p.clauses);
-      few  = p.few;
+      start = omega (arith, p.place_is, place-low c.args.bytes.now c.args.start, p.within, p.clauses);
+      few = p.few;
       seed_few = p.seed_few;
       places_size = refl;
       signs_size = refl;
@@ -36,7 +36,7 @@ row_is c = c.loop-j.invariant.1 ∙ c.note.ensures.1
 pub sign-sign-requires : goal.sign-sign-requires
 sign-sign-requires c =
     let p = c.requires in
-    record { ready = record { within = p.ready.within; empty = row_is (goal.at.sign-sign-requires c).At-loop-j ∙ p.ready.empty }; few  = p.seed_few }
+    record { ready = record { within = p.ready.within; empty = row_is (goal.at.sign-sign-requires c).At-loop-j ∙ p.ready.empty }; few = p.seed_few }
 
 pub scan-misses-requires : goal.scan-misses-requires
 scan-misses-requires c =
@@ -65,14 +65,13 @@ missed c = omega (arith, c.loop-j.invariant.2, c.scan-misses.ensures.2)
 
 -- it is given up
 pub returns-then-misses-limit : goal.returns-then-misses-limit
-returns-then-misses-limit c =
-    (
-      record {
-        unlimited = λ h. absurd (omega (arith, missed (goal.at.returns-then-misses-limit c).After-scan-misses, few (goal.at.returns-then-misses-limit c).In-loop-j, c.if-misses-limit.true));
-        firsts_are = λ e. absurd (false≢true e);
-      },
-      c.scan-misses.ensures.1 ∙ c.sign-sign.ensures.1 ∙ row_is (goal.at.returns-then-misses-limit c).At-loop-j,
-    )
+returns-then-misses-limit c = (
+  record {
+    unlimited = λ h. absurd (omega (arith, missed (goal.at.returns-then-misses-limit c).After-scan-misses, few (goal.at.returns-then-misses-limit c).In-loop-j, c.if-misses-limit.true));
+    firsts_are = λ e. absurd (false≢true e);
+  },
+  c.scan-misses.ensures.1 ∙ c.sign-sign.ensures.1 ∙ row_is (goal.at.returns-then-misses-limit c).At-loop-j,
+)
 
 -- clause j was looked for
 next : (c : After-end_of-at)
