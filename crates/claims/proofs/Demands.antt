@@ -38,7 +38,7 @@ use Rattle.claims.specs.Calls.{ConvertAfter, after_seen, after_guard, Write, wri
 use Rattle.claims.specs.Calls.{over, Origin, origin_seen, origin_guard, clause_asked, option_names, helper_names}
 use Rattle.claims.specs.Calls.{Origins, origins_seen, origins_guard, origins_option_names, origins_helper_names}
 use Rattle.claims.specs.Calls.{ReadSat, sat_seen, sat_text, Tidy, tidy_seen, tidy_bytes, tidy_variables, tidy_clauses}
-use Rattle.claims.specs.Claims.{Demand1, Demand2, Demand3, Chain, none, next}
+use Rattle.claims.specs.Claims.{Answers, Gives, Demand1, Demand2, Demand3, Chain, none, next}
 use Rattle.claims.proofs.Answered.{answers, Zero, zero, gives, first-told, second-told, stored-room}
 use Rattle.claims.proofs.Outputs.{measured-accepted, chosen-kept, chosen-accepted, Passed, convert-kept, convert-passed}
 use Rattle.claims.proofs.Outputs.{after_kept, after-passed, write_kept, write-accepted, read_kept, read-accepted}
@@ -100,7 +100,6 @@ demand1 = record {
   write = λ c. answers (write_seen c) (write_wrote c) c.promise.0 (write_kept (clause_bytes c) (declared c) (write_seen c).before);
   read = λ c. answers (read_seen c) (read_wrote c) c.promise (read_kept (text_of c) (read_seen c).before);
   read_sat = λ c. answers (sat_seen c) (sat_wrote c) c.promise (sat-kept (sat_text c) (sat_seen c).before);
-  tidy = λ c. answers (tidy_seen c) (tidy_wrote c) c.promise.0 (tidy-kept (tidy_bytes c) (tidy_variables c) (tidy_seen c).before);
 }
 
 -- where 0 is returned
@@ -145,6 +144,18 @@ pub tidy_done : (c : Tidy) → (tidy_seen c).returned ≡ 0 → let cs = tidy_cl
     })
 tidy_done c z =
     tidy-accepted (tidy_bytes c) (tidy_variables c) (tidy_seen c).before (zero (tidy_seen c) (tidy_wrote c) c.promise.0 z).accepted
+
+-- what a call that tidies answers, and what it gives
+pub tidy_answers : (c : Tidy) → Answers (tidy_wrote c).answer (tidy_seen c)
+tidy_answers c = answers (tidy_seen c) (tidy_wrote c) c.promise.0 (tidy-kept (tidy_bytes c) (tidy_variables c) (tidy_seen c).before)
+
+pub tidy_gives : (c : Tidy) → (tidy_seen c).returned ≡ 0 → let cs = tidy_clauses c in
+    Gives (tidy_seen c) (length (changes_of cs)) (length (tidied cs)) (record {
+      kept = over (clauses_bytes (tidied cs)) (tidy_seen c).before.kept;
+      lines = over (change_lines (changes_of cs)) (tidy_seen c).before.lines;
+    })
+tidy_gives c z = gives (tidy_seen c) (tidy_wrote c) c.promise.0 _ _ _
+    (zero (tidy_seen c) (tidy_wrote c) c.promise.0 z) (tidy_done c z).1
 
 -- the round trip
 module _ (w : Write) (r : Read) (z : (write_seen w).returned ≡ 0)
@@ -222,8 +233,6 @@ demand2 = record {
   read_sat = λ c z. let d = zero (sat_seen c) (sat_wrote c) c.promise z in
       let a = sat-accepted (sat_text c) (sat_seen c).before d.accepted in
       (a.0, a.1, a.2, a.3, gives (sat_seen c) (sat_wrote c) c.promise _ _ _ d a.4);
-  tidy = λ c z. gives (tidy_seen c) (tidy_wrote c) c.promise.0 _ _ _
-      (zero (tidy_seen c) (tidy_wrote c) c.promise.0 z) (tidy_done c z).1;
   round_trip = back;
 }
 

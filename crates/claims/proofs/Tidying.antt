@@ -28,7 +28,7 @@ use Rattle.tidy.proofs.Rooms.{kept-most, lines-most}
 use Rattle.claims.specs.Calls.{second, over, Tidy, tidy_seen, tidy_bytes, tidy_variables, tidy_clauses, kept_left, lines_left}
 use Rattle.claims.specs.Claims.{Gives, Tidied}
 use Rattle.claims.proofs.Answered.{zero, gives, second-told}
-use Rattle.claims.proofs.Demands.{demand1, demand2, tidy_wrote, tidy_done}
+use Rattle.claims.proofs.Demands.{tidy_answers, tidy_gives, tidy_wrote, tidy_done}
 
 -- both outputs, the second of them empty, where there is room for the first
 stored-first : (a : Answer) (kept : List ℕ) (before : Outputs) → length kept ≤ length before.kept
@@ -64,13 +64,13 @@ module _ (c : Tidy) (z : (tidy_seen c).returned ≡ 0) where
   kept-is : kept_left c ≡ clauses_bytes (tidied given)
   kept-is =
       let bytes = clauses_bytes (tidied given) in
-      ap (λ (o : Outputs). take (length bytes) o.kept) (demand2.tidy c z).outputs
+      ap (λ (o : Outputs). take (length bytes) o.kept) (tidy_gives c z).outputs
       ∙ take-append_seam bytes (drop (length bytes) (tidy_seen c).before.kept)
 
   lines_are : lines_left c ≡ change_lines (changes_of given)
   lines_are =
       let lines = change_lines (changes_of given) in
-      ap (λ (o : Outputs). take (length lines) o.lines) (demand2.tidy c z).outputs
+      ap (λ (o : Outputs). take (length lines) o.lines) (tidy_gives c z).outputs
       ∙ take-append_seam lines (drop (length lines) (tidy_seen c).before.lines)
 
   -- the clauses that the kept bytes stand for
@@ -87,7 +87,7 @@ module _ (c : Tidy) (z : (tidy_seen c).returned ≡ 0) where
   writable = ap (λ (bytes : List ℕ). wrong_bytes bytes (tidy_variables c)) kept-is ∙ tidied-written (tidy_variables c) given right
 
   count : second (tidy_seen c) ≡ length (tidied given)
-  count = second-told (demand2.tidy c z) (omega (arith, (tidied-right (tidy_variables c) given right).clauses))
+  count = second-told (tidy_gives c z) (omega (arith, (tidied-right (tidy_variables c) given right).clauses))
 
   -- a second call over what is left
   module _ (d : Tidy) (same : tidy_bytes d ≡ kept_left c) (variables : tidy_variables d ≡ tidy_variables c)
@@ -110,7 +110,7 @@ module _ (c : Tidy) (z : (tidy_seen c).returned ≡ 0) where
         × Gives (tidy_seen d) 0 (length (clauses_of (kept_left c))) (record { kept = over (kept_left c) before.kept; lines = before.lines })
     again =
         let zeroed : (tidy_seen d).returned ≡ 0 =
-        ((demand1.tidy d).right_part part).0 ∙ ap (λ (w : Wrote Outputs). (told_of w.answer).number) called in
+        ((tidy_answers d).right_part part).0 ∙ ap (λ (w : Wrote Outputs). (told_of w.answer).number) called in
         let words : left ≡ record {
           answer = Accepted 0 (length (clauses_of (kept_left c)));
           output = record { kept = over (kept_left c) before.kept; lines = before.lines };
@@ -132,7 +132,7 @@ room-enough c part right h g =
     let kept : length (clauses_bytes (tidied cs)) ≤ length before.kept = omega (arith, bytes, kept-most cs) in
     let lines : length (change_lines (changes_of cs)) ≤ length before.lines =
     omega (arith, bytes, length-clauses cs, lines-most (tidy_variables c) cs r) in
-    ((demand1.tidy c).right_part part).0 ∙ rw (right, le-ltb _ _ kept, le-ltb _ _ lines)
+    ((tidy_answers c).right_part part).0 ∙ rw (right, le-ltb _ _ kept, le-ltb _ _ lines)
 
 -- two calls with the same lines and as many kept clauses
 tells : (c d : Tidy) → (tidy_seen c).returned ≡ 0 → (tidy_seen d).returned ≡ 0 → lines_left c ≡ lines_left d
@@ -145,6 +145,8 @@ tells c d z y lines k =
 
 pub tidying : Tidied
 tidying = record {
+  answers = tidy_answers;
+  gives = tidy_gives;
   rows = rows;
   again = λ c d z. again c z d;
   clauses = clauses;

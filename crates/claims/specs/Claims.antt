@@ -70,8 +70,6 @@ pub record Demand1 : Type 0 where
   pub read : (c : Read) → Answers (read_call (text_of c) (read_seen c).before).answer (read_seen c)
   -- R21.16 to R21.18: refusal 17 for a text that is wrong, 18 for too many nodes, and 7
   pub read_sat : (c : ReadSat) → Answers (satfile.read_call (sat_text c) (sat_seen c).before).answer (sat_seen c)
-  -- R23.13, R23.14: refusal 9, and 7 where either buffer is short: then neither changes
-  pub tidy : (c : Tidy) → Answers (tidy_call (tidy_bytes c) (tidy_variables c) (tidy_seen c).before).answer (tidy_seen c)
 
 -- R10.24: the length of a table and V are right, and its lowest faulty node is j
 pub record Faulty (g : Guard) (j : ℕ) : Type 0 where
@@ -138,12 +136,6 @@ pub record Demand2 : Type 0 where
   -- R21.9 to R21.14, R21.20: the table of the formula that the text stands for
   pub read_sat : (c : ReadSat) → (sat_seen c).returned ≡ 0 → (v : ℕ) × (t : Tree) × formula.Text v t (sat_text c) × (size_of t ≤ most_nodes)
       × Gives (sat_seen c) v (size_of t) (over (table_of t) (sat_seen c).before)
-  -- R23.8, R23.12, R23.15: the kept clauses and the lines, and how many there are of both
-  pub tidy : (c : Tidy) → (tidy_seen c).returned ≡ 0 → let cs = tidy_clauses c in
-      Gives (tidy_seen c) (length (changes_of cs)) (length (tidied cs)) (record {
-        kept = over (clauses_bytes (tidied cs)) (tidy_seen c).before.kept;
-        lines = over (change_lines (changes_of cs)) (tidy_seen c).before.lines;
-      })
   -- R15.6: the text that a call has written is read, given room, as the same clause bytes with the same two values
   pub round_trip : (w : Write) (r : Read) → (write_seen w).returned ≡ 0
       → text_of r ≡ take (length (written_text (declared w) (clauses_of (clause_bytes w)))) (write_seen w).after
@@ -170,6 +162,14 @@ pub record Formulas : Type 0 where
 
 -- R23.14, R23.16 to R23.20: which buffers are enough, what a call that tidies leaves of the clauses, and what its lines tell
 pub record Tidied : Type 0 where
+  -- R23.13, R23.14: refusal 9, and 7 where either buffer is short: then neither changes
+  pub answers : (c : Tidy) → Answers (tidy_call (tidy_bytes c) (tidy_variables c) (tidy_seen c).before).answer (tidy_seen c)
+  -- R23.8, R23.12, R23.15: the kept clauses and the lines, and how many there are of both
+  pub gives : (c : Tidy) → (tidy_seen c).returned ≡ 0 → let cs = tidy_clauses c in
+      Gives (tidy_seen c) (length (changes_of cs)) (length (tidied cs)) (record {
+        kept = over (clauses_bytes (tidied cs)) (tidy_seen c).before.kept;
+        lines = over (change_lines (changes_of cs)) (tidy_seen c).before.lines;
+      })
   -- R23.16: every row satisfies the kept clauses exactly where it satisfies the given ones
   pub rows : (c : Tidy) → (tidy_seen c).returned ≡ 0 → (ρ : ℕ → Bool)
       → satisfies ρ (clauses_of (kept_left c)) ≡ satisfies ρ (tidy_clauses c)
