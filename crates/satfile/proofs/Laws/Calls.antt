@@ -1,10 +1,11 @@
 -- What the call gives, by what its two readings tell.
 -- Assumes nothing.
-use mathlib.Core.Path.{◌≡◌, sym, ap, ◌∙◌}
-use mathlib.Core.Bool.{true, false}
-use mathlib.Core.List.{List}
-use Prim.Native.Nat.{ℕ, ◌*◌, ◌-◌, ◌≤◌, ◌<◌}
+use mathlib.Core.Path.{◌≡◌, refl, sym, ap, ◌∙◌, subst}
+use mathlib.Core.Bool.{Bool, true, false, cond}
+use mathlib.Core.List.{List, []}
+use Prim.Native.Nat.{ℕ, ◌+◌, ◌*◌, ◌-◌, ◌≤◌, ◌<◌}
 use native.Mathlib.Omega.{arith}
+use lib.Dec.{ltb}
 use lib.ListN.{length, drop, length-drop}
 use borrow.Author.Tests.{lt-ltb, le-ltb}
 use Rattle.laws.specs.Lists.{splice}
@@ -14,9 +15,9 @@ use Rattle.answer.specs.declared.Answer.TheVariants.{Accepted, SatText, Nodes, R
 use Rattle.header.specs.Inner.Heads.{is_done, head_of}
 use Rattle.header.specs.declared.Head.{Head}
 use Rattle.formula.specs.Tables.{node_bytes, most_nodes}
-use Rattle.satfile.specs.Trees.{Tree, size_of, table_of}
+use Rattle.satfile.specs.Trees.{Tree, size_of, table_of, records_from}
 use Rattle.satfile.specs.Texts.{sat}
-use Rattle.satfile.specs.Inner.Reads.{Out, whole_in}
+use Rattle.satfile.specs.Inner.Reads.{Out, Read, Bad, whole_in}
 use Rattle.satfile.specs.Inner.Parts.{DoneTo, WrongTo, Tells}
 use Rattle.satfile.specs.Inner.Calls.{body_call, read_call}
 use Rattle.satfile.specs.Calls.{tree_call}

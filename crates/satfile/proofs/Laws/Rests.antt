@@ -1,19 +1,19 @@
 -- What is left of a text from a place on, as the reader takes it apart: byte by byte, white space, digits, and how a formula begins.
 -- Assumes nothing.
-use mathlib.Core.Path.{◌≡◌, refl, ap, ◌∙◌}
-use mathlib.Core.Bool.{Bool, true, false, cond, not, ◌||◌, false≢true}
+use mathlib.Core.Path.{◌≡◌, refl, sym, ap, ◌∙◌}
+use mathlib.Core.Bool.{Bool, true, false, cond, not, ◌&&◌, ◌||◌, false≢true}
 use mathlib.Core.List.{List, [], ◌∷◌}
-use Prim.Native.Nat.{ℕ, ◌+◌, ◌-◌, ◌≤◌, ◌<◌}
+use Prim.Native.Nat.{ℕ, suc, ◌+◌, ◌-◌, ◌≤◌, ◌<◌}
 use native.Mathlib.Numerals.{add-one}
 use native.Mathlib.Omega.{arith}
-use lib.Dec.{eqb}
-use lib.ListN.{length, get_or, drop, drop_of_length-le}
+use lib.Dec.{eqb, leb, ltb}
+use lib.ListN.{length, get_or, drop, drop_of_length-le, length-drop}
 use lib.Seq.{drop-cons}
 use borrow.Author.Tests.{eqb-false, eq-eqb, ne_eqb, le-leb, lt-leb, lt-ltb, le-ltb}
 use Rattle.text.specs.Inner.Numbers.{is_digit, grown_of}
 use Rattle.text.specs.declared.number.Number.TheVariants as number
-use Rattle.satfile.specs.Inner.Reads.{Read, Bad, and_then, is_space, skipped, grown_by, digits_from, is_first, number_in}
-use Rattle.satfile.specs.Inner.Reads.{fills, negates, Leaf, Open, operand_in, open_in, begin_in, is_whole, ends_at, is_parted}
+use Rattle.satfile.specs.Inner.Reads.{Out, Read, Bad, and_then, is_space, skipped, grown_by, digits_from, is_first, number_in}
+use Rattle.satfile.specs.Inner.Reads.{fills, negates, Begin, Leaf, Open, one_of, operand_in, open_in, begin_in, is_whole, ends_at, is_parted}
 use Rattle.satfile.specs.declared.lead.Group.{Group}
 use Rattle.satfile.specs.declared.lead.Group.TheVariants as group
 
@@ -109,6 +109,10 @@ module _ (text : List ℕ) (i : ℕ) where
 
       pub operand_no : get_or text i 0 ≡ 40 → fills v d ≡ false → operand_in v d negated (drop i text) ≡ Bad (drop i text)
       operand_no e f = rw (rest-byte h) (taken _ _ _ (eq-eqb _ _ e) ∙ left _ _ _ f)
+
+      pub operand-open : get_or text i 0 ≡ 40 → fills v d ≡ true
+          → operand_in v d negated (drop i text) ≡ Read (Open (one_of negated)) (drop (i + 1) text)
+      operand-open e f = rw (rest-byte h) (taken _ _ _ (eq-eqb _ _ e) ∙ taken _ _ _ f)
 
   -- the parenthesis of a list
   module _ (g : Group) where

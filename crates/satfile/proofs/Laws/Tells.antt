@@ -1,20 +1,32 @@
--- What the functions of the reader tell of a text that is read the same.
+-- What the functions of the reader tell: of each of their answers, and of a text that is read the same.
 -- Assumes nothing.
 use mathlib.Core.Path.{◌≡◌, ap, ◌∙◌, subst}
 use mathlib.Core.Bool.{Bool, true, false}
 use mathlib.Core.List.{List}
 use Prim.Native.Nat.{ℕ, ◌+◌, ◌≤◌}
 use native.Mathlib.Omega.{arith}
-use Rattle.satfile.specs.Inner.Reads.{Out, Read, and_then, Begin, Leaf}
-use Rattle.satfile.specs.Inner.Parts.{TellsNumber, ReadTo, WrongAt, TellsBegin, leaf_nodes, leaf_bytes}
+use Rattle.satfile.specs.Inner.Reads.{Out, Read, Bad, and_then, Begin, Leaf, Open}
+use Rattle.satfile.specs.Inner.Parts.{TellsNumber, ReadTo, WrongAt, OpenTo, TellsBegin, leaf_nodes, leaf_bytes, DoneTo, WrongTo, Tells}
+use Rattle.satfile.specs.Trees.{Tree}
+use Rattle.satfile.specs.declared.lead.Group.{Group}
 use Rattle.satfile.specs.declared.lead.Numeral.{Numeral}
+use Rattle.satfile.specs.declared.lead.Numeral.TheVariants as numeral
 use Rattle.satfile.specs.declared.lead.Lead.{Lead}
 use Rattle.satfile.specs.declared.lead.Lead.TheVariants as lead
+use Rattle.satfile.specs.declared.nested.Part.{Part}
+use Rattle.satfile.specs.declared.nested.Part.TheVariants as part
 
 -- a number
 module _ (text : List ℕ) (from : ℕ) (r : Numeral) where
   pub number_as : {o p : Out ℕ} → o ≡ p → TellsNumber text from o r → TellsNumber text from p r
   number_as e h = subst (λ (x : Out ℕ). TellsNumber text from x r) e h
+
+  module _ {o : Out ℕ} (h : TellsNumber text from o r) where
+    pub number_is : (value at : ℕ) → r ≡ numeral.Is value at → ReadTo text o value from at
+    number_is value at e = subst (TellsNumber text from o) e h
+
+    pub number-wrong : (place : ℕ) → r ≡ numeral.Wrong place → WrongAt text o place
+    number-wrong place e = subst (TellsNumber text from o) e h
 
 -- a number has a digit
 pub leaf-bytes : (negated : Bool) (at end : ℕ) → at + 1 ≤ end → at + leaf_bytes negated negated ≤ end
@@ -50,3 +62,23 @@ module _ (text : List ℕ) (from at d : ℕ) {o p : Out Begin} (e : p ≡ o) (h 
 pub few-behind : (at : ℕ) (n : Bool) → at + leaf_nodes n ≤ at + 1 + leaf_bytes true n
 few-behind at false = omega arith
 few-behind at true = omega arith
+
+-- how a formula begins, by each answer
+module _ (text : List ℕ) (from d : ℕ) (o : Out Begin) (r : Lead) (h : TellsBegin leaf_nodes text from d o r) where
+  pub begin-leaf : (value : ℕ) (negated : Bool) (at : ℕ) → r ≡ lead.Symbol value negated at
+      → ReadTo text o (Leaf value negated) (from + leaf_nodes negated) at
+  begin-leaf value negated at e = subst (TellsBegin leaf_nodes text from d o) e h
+
+  pub begin-open : (g : Group) (at : ℕ) → r ≡ lead.Open g at → OpenTo text o g from at d
+  begin-open g at e = subst (TellsBegin leaf_nodes text from d o) e h
+
+  pub begin-wrong : (place : ℕ) → r ≡ lead.Wrong place → WrongAt text o place
+  begin-wrong place e = subst (TellsBegin leaf_nodes text from d o) e h
+
+-- a formula or a group, by each answer
+module _ (text before : List ℕ) (from i : ℕ) (o : Out Tree) (r : Part) (after : List ℕ) (h : Tells text before from i o r after) where
+  pub told_done : (at next : ℕ) → r ≡ part.Done at next → DoneTo text before from i o at next after
+  told_done at next e = subst (λ (x : Part). Tells text before from i o x after) e h
+
+  pub told-wrong : (place : ℕ) → r ≡ part.Wrong place → WrongTo text before o place after
+  told-wrong place e = subst (λ (x : Part). Tells text before from i o x after) e h
