@@ -28,6 +28,7 @@ const NUMBERED: usize = 256;
 /// The library looks clauses up by signatures, which fall into so many slots.
 const SLOTS: usize = 65_536;
 /// Where clauses of a block are compared in vain more often than this, it goes on with the signatures of another seed.
+#[cfg(test)]
 const IN_VAIN: usize = 4_096;
 const SEEDS: usize = 16;
 /// So many clauses of one slot in a block are compared often enough.
