@@ -17,7 +17,14 @@ use Rattle.body.specs.declared.state.State.{State}
 use Rattle.dimacs.specs.Texts.{cnf}
 use Rattle.dimacs.specs.Inner.Walks.{state_from}
 use Rattle.dimacs.proofs.Laws.ReadCall.{Seen, read_headless, read-refused, read_no_room, read-room, read-accepted}
+use Rattle.dimacs.proofs.read.Goals.{After-check-end, After-read-head, Else-clauses-room, Else-not-is_accepted}
 use Rattle.dimacs.proofs.read.Goals as goal
+
+abbrev text_of : After-read-head → List ℕ
+text_of c = c.args.text.now
+
+abbrev buffer-of : After-read-head → List ℕ
+buffer-of c = c.args.clauses.now
 
 lettered : (f : Form) → f ≡ cnf → Lettered f
 lettered f e = subst⁻¹ Lettered e (record { first = refl; second = refl; third = refl })
@@ -26,9 +33,12 @@ pub read-head-requires : goal.read-head-requires
 read-head-requires c =
     record { table = c.classes-classes.ensures; letters = lettered c.cnf_form.result c.cnf_form.ensures }
 
+head : (c : After-read-head) → c.read-head.result ≡ head_of cnf (text_of c)
+head c = c.read-head.ensures ∙ ap (λ f. head_of f (text_of c)) c.cnf_form.ensures
+
 pub returns-then-not-is_done : goal.returns-then-not-is_done
 returns-then-not-is_done c =
-    read_headless ((let text_of : List ℕ = c.args.text.now in text_of)) ((let buffer-of : List ℕ = c.args.clauses.now in buffer-of)) ((let head : c.read-head.result ≡ head_of cnf ((let text_of : List ℕ = c.args.text.now in text_of)) = c.read-head.ensures ∙ ap (λ f. head_of f ((let text_of : List ℕ = c.args.text.now in text_of))) c.cnf_form.ensures in head))
+    read_headless (text_of (goal.at.returns-then-not-is_done c).After-read-head) (buffer-of (goal.at.returns-then-not-is_done c).After-read-head) (head (goal.at.returns-then-not-is_done c).After-read-head)
     (sym c.is_done.ensures ∙ not-true c.is_done.result c.if-not-is_done.true-raw)
 
 pub check-end-requires : goal.check-end-requires
@@ -38,32 +48,47 @@ check-end-requires c =
       place = omega (
         arith,
         ap (λ (s : State). s.place) c.start-start.ensures,
-        ap (λ (h : Head). h.place) ((let head : c.read-head.result ≡ head_of cnf ((let text_of : List ℕ = c.args.text.now in text_of)) = c.read-head.ensures ∙ ap (λ f. head_of f ((let text_of : List ℕ = c.args.text.now in text_of))) c.cnf_form.ensures in head)),
-        head_within cnf ((let text_of : List ℕ = c.args.text.now in text_of)),
+        ap (λ (h : Head). h.place) (head (goal.at.check-end-requires c).After-read-head),
+        head_within cnf (text_of (goal.at.check-end-requires c).After-read-head),
       );
       phase = ap (λ (s : State). s.phase) c.start-start.ensures;
     }
 
+seen : (c : After-check-end) → Seen (text_of (goal.at.After-check-end c).After-read-head) c.read-head.result c.check-end.result
+seen c =
+    record {
+      head = head (goal.at.After-check-end c).After-read-head;
+      done = sym c.is_done.ensures ∙ not-false c.is_done.result c.if-not-is_done.false-raw;
+      read = c.check-end.ensures ∙ ap (λ (s : State). state_from s (text_of (goal.at.After-check-end c).After-read-head) s.place) c.start-start.ensures;
+    }
+
 pub returns-then-not-is_accepted : goal.returns-then-not-is_accepted
 returns-then-not-is_accepted c =
-    read-refused ((let buffer-of : List ℕ = c.args.clauses.now in buffer-of)) ((let seen : Seen ((let text_of : List ℕ = c.args.text.now in text_of)) c.read-head.result c.check-end.result = record { head = (let head : c.read-head.result ≡ head_of cnf ((let text_of : List ℕ = c.args.text.now in text_of)) = c.read-head.ensures ∙ ap (λ f. head_of f ((let text_of : List ℕ = c.args.text.now in text_of))) c.cnf_form.ensures in head); done = sym c.is_done.ensures ∙ not-false c.is_done.result c.if-not-is_done.false-raw; read = c.check-end.ensures ∙ ap (λ (s : State). state_from s ((let text_of : List ℕ = c.args.text.now in text_of)) s.place) c.start-start.ensures } in seen))
+    read-refused (buffer-of (goal.at.returns-then-not-is_accepted c).After-read-head) (seen (goal.at.returns-then-not-is_accepted c).After-check-end)
     (sym c.is_accepted.ensures ∙ not-true c.is_accepted.result c.if-not-is_accepted.true-raw)
+
+-- it is accepted
+accepted : (c : Else-not-is_accepted) → accepts c.check-end.result ≡ true
+accepted c = sym c.is_accepted.ensures ∙ not-false c.is_accepted.result c.if-not-is_accepted.false-raw
 
 pub returns-then-clauses-room : goal.returns-then-clauses-room
 returns-then-clauses-room c =
-    read_no_room ((let buffer-of : List ℕ = c.args.clauses.now in buffer-of)) ((let seen : Seen ((let text_of : List ℕ = c.args.text.now in text_of)) c.read-head.result c.check-end.result = record { head = (let head : c.read-head.result ≡ head_of cnf ((let text_of : List ℕ = c.args.text.now in text_of)) = c.read-head.ensures ∙ ap (λ f. head_of f ((let text_of : List ℕ = c.args.text.now in text_of))) c.cnf_form.ensures in head); done = sym c.is_done.ensures ∙ not-false c.is_done.result c.if-not-is_done.false-raw; read = c.check-end.ensures ∙ ap (λ (s : State). state_from s ((let text_of : List ℕ = c.args.text.now in text_of)) s.place) c.start-start.ensures } in seen)) ((let accepted : accepts c.check-end.result ≡ true = sym c.is_accepted.ensures ∙ not-false c.is_accepted.result c.if-not-is_accepted.false-raw in accepted)) (omega (arith, c.room.ensures, c.if-clauses-room.true))
+    read_no_room (buffer-of (goal.at.returns-then-clauses-room c).After-read-head) (seen (goal.at.returns-then-clauses-room c).After-check-end) (accepted (goal.at.returns-then-clauses-room c).Else-not-is_accepted) (omega (arith, c.room.ensures, c.if-clauses-room.true))
+
+room : (c : Else-clauses-room) → room_of c.read-head.result.value c.check-end.result.literals ≤ length (buffer-of (goal.at.Else-clauses-room c).After-read-head)
+room c = omega (arith, c.room.ensures, c.if-clauses-room.false)
 
 pub copy-requires : goal.copy-requires
 copy-requires c =
     record {
       table = c.classes-classes.ensures;
-      accepted = ap accepts (sym ((let seen : Seen ((let text_of : List ℕ = c.args.text.now in text_of)) c.read-head.result c.check-end.result = record { head = (let head : c.read-head.result ≡ head_of cnf ((let text_of : List ℕ = c.args.text.now in text_of)) = c.read-head.ensures ∙ ap (λ f. head_of f ((let text_of : List ℕ = c.args.text.now in text_of))) c.cnf_form.ensures in head); done = sym c.is_done.ensures ∙ not-false c.is_done.result c.if-not-is_done.false-raw; read = c.check-end.ensures ∙ ap (λ (s : State). state_from s ((let text_of : List ℕ = c.args.text.now in text_of)) s.place) c.start-start.ensures } in seen)).read) ∙ (let accepted : accepts c.check-end.result ≡ true = sym c.is_accepted.ensures ∙ not-false c.is_accepted.result c.if-not-is_accepted.false-raw in accepted);
-      room = read-room ((let buffer-of : List ℕ = c.args.clauses.now in buffer-of)) ((let seen : Seen ((let text_of : List ℕ = c.args.text.now in text_of)) c.read-head.result c.check-end.result = record { head = (let head : c.read-head.result ≡ head_of cnf ((let text_of : List ℕ = c.args.text.now in text_of)) = c.read-head.ensures ∙ ap (λ f. head_of f ((let text_of : List ℕ = c.args.text.now in text_of))) c.cnf_form.ensures in head); done = sym c.is_done.ensures ∙ not-false c.is_done.result c.if-not-is_done.false-raw; read = c.check-end.ensures ∙ ap (λ (s : State). state_from s ((let text_of : List ℕ = c.args.text.now in text_of)) s.place) c.start-start.ensures } in seen)) ((let accepted : accepts c.check-end.result ≡ true = sym c.is_accepted.ensures ∙ not-false c.is_accepted.result c.if-not-is_accepted.false-raw in accepted)) ((let room : room_of c.read-head.result.value c.check-end.result.literals ≤ length ((let buffer-of : List ℕ = c.args.clauses.now in buffer-of)) = omega (arith, c.room.ensures, c.if-clauses-room.false) in room));
+      accepted = ap accepts (sym (seen (goal.at.copy-requires c).After-check-end).read) ∙ accepted (goal.at.copy-requires c).Else-not-is_accepted;
+      room = read-room (buffer-of (goal.at.copy-requires c).After-read-head) (seen (goal.at.copy-requires c).After-check-end) (accepted (goal.at.copy-requires c).Else-not-is_accepted) (room (goal.at.copy-requires c).Else-clauses-room);
     }
 
 pub returns : goal.returns
 returns c =
-    read-accepted ((let buffer-of : List ℕ = c.args.clauses.now in buffer-of)) ((let seen : Seen ((let text_of : List ℕ = c.args.text.now in text_of)) c.read-head.result c.check-end.result = record { head = (let head : c.read-head.result ≡ head_of cnf ((let text_of : List ℕ = c.args.text.now in text_of)) = c.read-head.ensures ∙ ap (λ f. head_of f ((let text_of : List ℕ = c.args.text.now in text_of))) c.cnf_form.ensures in head); done = sym c.is_done.ensures ∙ not-false c.is_done.result c.if-not-is_done.false-raw; read = c.check-end.ensures ∙ ap (λ (s : State). state_from s ((let text_of : List ℕ = c.args.text.now in text_of)) s.place) c.start-start.ensures } in seen)) ((let accepted : accepts c.check-end.result ≡ true = sym c.is_accepted.ensures ∙ not-false c.is_accepted.result c.if-not-is_accepted.false-raw in accepted)) ((let room : room_of c.read-head.result.value c.check-end.result.literals ≤ length ((let buffer-of : List ℕ = c.args.clauses.now in buffer-of)) = omega (arith, c.room.ensures, c.if-clauses-room.false) in room)) c.copy.ensures
+    read-accepted (buffer-of (goal.at.returns c).After-read-head) (seen (goal.at.returns c).After-check-end) (accepted (goal.at.returns c).Else-not-is_accepted) (room (goal.at.returns c).Else-clauses-room) c.copy.ensures
 
 pub slice_bounds-copy-end : goal.slice_bounds-copy-end
 slice_bounds-copy-end c =

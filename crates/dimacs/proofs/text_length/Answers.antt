@@ -5,21 +5,33 @@ use lib.ListN.{length}
 use Rattle.clausebytes.proofs.Laws.Checking.{Found, found_of_checked}
 use Rattle.dimacs.specs.Texts.{header_line}
 use Rattle.dimacs.proofs.Laws.WriteCall.{length-wrong, found-small, found-lines, length_found}
+use Rattle.dimacs.proofs.text_length.Goals.{In-Counted}
 use Rattle.dimacs.proofs.text_length.Goals as goal
+
+-- what the check found
+abbrev FoundT : In-Counted → Type 0
+FoundT c =
+    let x = c.args in
+    Found x.clauses.now x.variables c.in-Counted.count c.in-Counted.literals
+
+found : (c : In-Counted) → FoundT c
+found c =
+    let x = c.args in
+    found_of_checked x.clauses.now x.variables _ _ (sym c.check.ensures ∙ c.in-Counted.is)
 
 pub returns-in-Counted : goal.returns-in-Counted
 returns-in-Counted c =
     let x = c.args in
-    length_found ((let found : (let FoundT : Type 0 = let x = c.args in Found x.clauses.now x.variables c.in-Counted.count c.in-Counted.literals in FoundT) = let x = c.args in found_of_checked x.clauses.now x.variables _ _ (sym c.check.ensures ∙ c.in-Counted.is) in found)) _
+    length_found (found (goal.at.returns-in-Counted c).In-Counted) _
     (c.size.ensures ∙ ap (λ n. length (header_line x.variables c.in-Counted.count) + n) c.lines_size.ensures)
 
 pub lines_size-requires : goal.lines_size-requires
 lines_size-requires c =
-    found-small ((let found : (let FoundT : Type 0 = let x = c.args in Found x.clauses.now x.variables c.in-Counted.count c.in-Counted.literals in FoundT) = let x = c.args in found_of_checked x.clauses.now x.variables _ _ (sym c.check.ensures ∙ c.in-Counted.is) in found))
+    found-small (found c)
 
 pub size-requires : goal.size-requires
 size-requires c =
-    found-lines ((let found : (let FoundT : Type 0 = let x = c.args in Found x.clauses.now x.variables c.in-Counted.count c.in-Counted.literals in FoundT) = let x = c.args in found_of_checked x.clauses.now x.variables _ _ (sym c.check.ensures ∙ c.in-Counted.is) in found)) _ c.lines_size.ensures
+    found-lines (found (goal.at.size-requires c).In-Counted) _ c.lines_size.ensures
 
 pub returns-in-Wrong : goal.returns-in-Wrong
 returns-in-Wrong c =

@@ -17,9 +17,3 @@ returns-then-is_part_wrong c =
 pub give-requires : goal.give-requires
 give-requires c =
     part_right c.args.answer.now _ c.is_part_wrong.ensures c.if-is_part_wrong.false
-
-pub returns : goal.returns
-returns c =
-    leaves-right c.args.answer.now c.args.table.now (wrote (goal.at.returns c).Start)
-    (record { answer = c.read.result; output = c.read.new.table })
-    _ c.is_part_wrong.ensures c.if-is_part_wrong.false c.read.ensures c.give.ensures

@@ -11,15 +11,6 @@ use Rattle.choose.proofs.Laws.Chosen.{fits-first}
 use Rattle.choose.proofs.Laws.Decided.{below-decides, few-decides, second-decides}
 use Rattle.choose.proofs.pass.choose_marked.Goals as goal
 
-pub returns-then-first-lt-CEILING : goal.returns-then-first-lt-CEILING
-returns-then-first-lt-CEILING c =
-    below-decides (nodes_of c.args.table.now) c.args.allowance _ _ _ c.pass-first.ensures c.if-first-lt-CEILING.true
-
-pub returns-then-allowance-all : goal.returns-then-allowance-all
-returns-then-allowance-all c =
-    few-decides (nodes_of c.args.table.now) c.args.allowance _ _ _ c.pass-first.ensures _ c.count_all-all.ensures
-    c.if-first-lt-CEILING.false c.if-allowance-all.true
-
 pub put_all-requires : goal.put_all-requires
 put_all-requires c =
     let t = c.args.table.now in
@@ -29,16 +20,3 @@ put_all-requires c =
           ap length (ap (λ (w : Wrote (List ℕ)). w.output) c.pass-first.ensures)
           ∙ (fits-first bare (nodes_of t) c.args.allowance).right.size ∙ length-nodes_of t;
     }
-
-pub pass-last-requires : goal.pass-last-requires
-pass-last-requires c =
-    record {
-      marked = c.requires.marked;
-      below = c.requires.below;
-      begins = λ j. record { picks = c.count_all-all.ensures j; chosen = c.put_all.ensures j };
-    }
-
-pub returns : goal.returns
-returns c =
-    second-decides (nodes_of c.args.table.now) c.args.allowance _ _ _ c.pass-first.ensures _ c.count_all-all.ensures
-    c.if-first-lt-CEILING.false _ c.pass-last.ensures c.if-allowance-all.false

@@ -12,6 +12,7 @@ use Rattle.dimacs.specs.Inner.Walks.{next_in, Leads}
 use Rattle.dimacs.proofs.Laws.Bytes.{digit-least}
 use Rattle.dimacs.proofs.Laws.Leads.{leads-none, leads_on}
 use Rattle.dimacs.proofs.Laws.Tokens.{digit-leads, digit-place, digit-number}
+use Rattle.dimacs.proofs.reader.digits.Goals.{After-grow-state, Else-is_dead, Else-not-is_digit}
 use Rattle.dimacs.proofs.reader.digits.Goals as goal
 
 pub returns-then-not-is_digit : goal.returns-then-not-is_digit
@@ -23,17 +24,30 @@ returns-then-not-is_digit c =
       stops = λ _ _. sym c.is_digit.ensures ∙ not-true c.is_digit.result c.if-not-is_digit.true-raw;
     }
 
+-- a digit
+is : (c : Else-not-is_digit) → is_digit (class_of (next_in c.args.text.now c.loop-state.state)) ≡ true
+is c = sym c.is_digit.ensures ∙ not-false c.is_digit.result c.if-not-is_digit.false-raw
+
 pub grow-state-requires : goal.grow-state-requires
 grow-state-requires c =
     record {
       place = omega (arith, c.loop-state-test.true);
-      least = digit-least (next_in c.args.text.now c.loop-state.state) ((let is : is_digit (class_of (next_in c.args.text.now c.loop-state.state)) ≡ true = sym c.is_digit.ensures ∙ not-false c.is_digit.result c.if-not-is_digit.false-raw in is));
+      least = digit-least (next_in c.args.text.now c.loop-state.state) (is c);
     }
+
+grown : (c : After-grow-state) → Leads c.args.text.now c.args.start c.grow-state.result
+grown c =
+    leads_on c.loop-state.invariant.0
+    (digit-leads c.args.text.now c.loop-state.state c.grow-state.result c.loop-state-test.true
+    c.loop-state.invariant.1 (is (goal.at.After-grow-state c).Else-not-is_digit) c.grow-state.ensures)
 
 pub returns-then-is_dead : goal.returns-then-is_dead
 returns-then-is_dead c =
     let e = sym c.is_dead.ensures ∙ c.if-is_dead.true in
-    record { leads = (let grown : Leads c.args.text.now c.args.start c.grow-state.result = leads_on c.loop-state.invariant.0 (digit-leads c.args.text.now c.loop-state.state c.grow-state.result c.loop-state-test.true c.loop-state.invariant.1 ((let is : is_digit (class_of (next_in c.args.text.now c.loop-state.state)) ≡ true = sym c.is_digit.ensures ∙ not-false c.is_digit.result c.if-not-is_digit.false-raw in is)) c.grow-state.ensures) in grown); next = inl e; stops = λ f _. absurd (false≢true (sym f ∙ e)) }
+    record { leads = grown (goal.at.returns-then-is_dead c).After-grow-state; next = inl e; stops = λ f _. absurd (false≢true (sym f ∙ e)) }
+
+live : (c : Else-is_dead) → is_dead c.grow-state.result.phase ≡ false
+live c = sym c.is_dead.ensures ∙ c.if-is_dead.false
 
 pub loop-state-smaller : goal.loop-state-smaller
 loop-state-smaller c =
@@ -42,14 +56,14 @@ loop-state-smaller c =
       arith,
       inside,
       digit-place c.args.text.now c.loop-state.state c.grow-state.result inside
-          c.loop-state.invariant.1 ((let is : is_digit (class_of (next_in c.args.text.now c.loop-state.state)) ≡ true = sym c.is_digit.ensures ∙ not-false c.is_digit.result c.if-not-is_digit.false-raw in is)) c.grow-state.ensures ((let live : is_dead c.grow-state.result.phase ≡ false = sym c.is_dead.ensures ∙ c.if-is_dead.false in live)),
+          c.loop-state.invariant.1 (is (goal.at.loop-state-smaller c).Else-not-is_digit) c.grow-state.ensures (live c),
     )
 
 pub loop-state-preserved : goal.loop-state-preserved
 loop-state-preserved c = (
-  (let grown : Leads c.args.text.now c.args.start c.grow-state.result = leads_on c.loop-state.invariant.0 (digit-leads c.args.text.now c.loop-state.state c.grow-state.result c.loop-state-test.true c.loop-state.invariant.1 ((let is : is_digit (class_of (next_in c.args.text.now c.loop-state.state)) ≡ true = sym c.is_digit.ensures ∙ not-false c.is_digit.result c.if-not-is_digit.false-raw in is)) c.grow-state.ensures) in grown),
+  grown (goal.at.loop-state-preserved c).After-grow-state,
   digit-number c.args.text.now c.loop-state.state c.grow-state.result c.loop-state-test.true
-      c.loop-state.invariant.1 ((let is : is_digit (class_of (next_in c.args.text.now c.loop-state.state)) ≡ true = sym c.is_digit.ensures ∙ not-false c.is_digit.result c.if-not-is_digit.false-raw in is)) c.grow-state.ensures ((let live : is_dead c.grow-state.result.phase ≡ false = sym c.is_dead.ensures ∙ c.if-is_dead.false in live)),
+      c.loop-state.invariant.1 (is (goal.at.loop-state-preserved c).Else-not-is_digit) c.grow-state.ensures (live c),
 )
 
 pub returns : goal.returns

@@ -6,6 +6,7 @@ use borrow.Author.Tests.{not-true, not-false}
 use Rattle.body.specs.Inner.Table.{is_dead}
 use Rattle.dimacs.specs.Inner.Walks.{dead, end}
 use Rattle.dimacs.proofs.Laws.Tokens.{spelt_begun, spelt_over, spelt_wrong, spelt_white}
+use Rattle.dimacs.proofs.reader.literal.Goals.{Else-is_dead}
 use Rattle.dimacs.proofs.reader.literal.Goals as goal
 
 pub returns-then-not-is_number : goal.returns-then-not-is_number
@@ -31,14 +32,18 @@ returns-then-i-text c =
     spelt_over c.args.text.now c.args.start c.first-begun.result c.digits-end.result c.first-begun.ensures
     c.digits-end.ensures (end c.if-i-text.true)
 
+-- the byte behind it
+live : (c : Else-is_dead) → is_dead c.digits-end.result.phase ≡ false
+live c = sym c.is_dead.ensures ∙ c.if-is_dead.false
+
 pub returns-then-not-is_white : goal.returns-then-not-is_white
 returns-then-not-is_white c =
     spelt_wrong c.args.text.now c.args.start c.first-begun.result c.digits-end.result c.first-begun.ensures
-    c.digits-end.ensures ((let live : is_dead c.digits-end.result.phase ≡ false = sym c.is_dead.ensures ∙ c.if-is_dead.false in live)) (omega (arith, c.if-i-text.false)) c.dead.result
+    c.digits-end.ensures (live (goal.at.returns-then-not-is_white c).Else-is_dead) (omega (arith, c.if-i-text.false)) c.dead.result
     (sym c.is_white.ensures ∙ not-true c.is_white.result c.if-not-is_white.true-raw) c.dead.ensures
 
 pub returns : goal.returns
 returns c =
     spelt_white c.args.text.now c.args.start c.first-begun.result c.digits-end.result c.first-begun.ensures
-    c.digits-end.ensures ((let live : is_dead c.digits-end.result.phase ≡ false = sym c.is_dead.ensures ∙ c.if-is_dead.false in live)) (omega (arith, c.if-i-text.false))
+    c.digits-end.ensures (live (goal.at.returns c).Else-is_dead) (omega (arith, c.if-i-text.false))
     (sym c.is_white.ensures ∙ not-false c.is_white.result c.if-not-is_white.false-raw)

@@ -5,6 +5,7 @@ use native.Mathlib.Omega.{arith}
 use borrow.Author.Tests.{not-true, not-false}
 use Rattle.body.specs.Inner.Table.{is_dead}
 use Rattle.dimacs.proofs.Laws.Tokens.{zero-dead, zero-end, zero-wrong, zero-apart}
+use Rattle.dimacs.proofs.reader.zero.Goals.{Else-is_dead}
 use Rattle.dimacs.proofs.reader.zero.Goals as goal
 
 pub returns-then-is_dead : goal.returns-then-is_dead
@@ -12,19 +13,23 @@ returns-then-is_dead c =
     zero-dead c.args.text.now c.args.start c.close-closed.result c.requires.place c.requires.phase c.requires.zero
     c.close-closed.ensures (sym c.is_dead.ensures ∙ c.if-is_dead.true)
 
+-- a clause is closed
+live : (c : Else-is_dead) → is_dead c.close-closed.result.phase ≡ false
+live c = sym c.is_dead.ensures ∙ c.if-is_dead.false
+
 pub returns-then-i-text : goal.returns-then-i-text
 returns-then-i-text c =
     zero-end c.args.text.now c.args.start c.close-closed.result c.requires.place c.requires.phase c.requires.zero
-    c.close-closed.ensures ((let live : is_dead c.close-closed.result.phase ≡ false = sym c.is_dead.ensures ∙ c.if-is_dead.false in live)) c.if-i-text.true
+    c.close-closed.ensures (live (goal.at.returns-then-i-text c).Else-is_dead) c.if-i-text.true
 
 pub returns-then-not-is_white : goal.returns-then-not-is_white
 returns-then-not-is_white c =
     zero-wrong c.args.text.now c.args.start c.close-closed.result c.requires.place c.requires.phase c.requires.zero
-    c.close-closed.ensures ((let live : is_dead c.close-closed.result.phase ≡ false = sym c.is_dead.ensures ∙ c.if-is_dead.false in live)) c.dead.result (omega (arith, c.if-i-text.false))
+    c.close-closed.ensures (live (goal.at.returns-then-not-is_white c).Else-is_dead) c.dead.result (omega (arith, c.if-i-text.false))
     (sym c.is_white.ensures ∙ not-true c.is_white.result c.if-not-is_white.true-raw) c.dead.ensures
 
 pub returns : goal.returns
 returns c =
     zero-apart c.args.text.now c.args.start c.close-closed.result c.requires.place c.requires.phase c.requires.zero
-    c.close-closed.ensures ((let live : is_dead c.close-closed.result.phase ≡ false = sym c.is_dead.ensures ∙ c.if-is_dead.false in live)) c.pass.result (omega (arith, c.if-i-text.false))
+    c.close-closed.ensures (live (goal.at.returns c).Else-is_dead) c.pass.result (omega (arith, c.if-i-text.false))
     (sym c.is_white.ensures ∙ not-false c.is_white.result c.if-not-is_white.false-raw) c.pass.ensures

@@ -9,19 +9,29 @@ use Rattle.laws.proofs.Stored.{room-left, room-right, stored-both}
 use Rattle.clausebytes.specs.Words.{words_of}
 use Rattle.dimacs.specs.Texts.{header_line}
 use Rattle.dimacs.specs.Inner.Words.{words_text}
+use Rattle.dimacs.proofs.writer.put_text.Goals.{Start}
 use Rattle.dimacs.proofs.writer.put_text.Goals as goal
+
+abbrev head : Start → List ℕ
+head s = header_line s.args.variables s.args.clauses
+
+abbrev lines : Start → List ℕ
+lines s = words_text (words_of s.args.bytes.now)
+
+room : (s : Start) → 0 + length (head s ++ lines s) ≤ length s.args.text.now
+room s = omega (arith, s.requires)
 
 pub returns : goal.returns
 returns c =
-    let w : Stored ((let lines : List ℕ = words_text (words_of c.args.bytes.now) in lines)) c.put_header-at.new.text c.put_header-at.result _ c.put_words.new.text =
+    let w : Stored (lines (goal.at.returns c).Start) c.put_header-at.new.text c.put_header-at.result _ c.put_words.new.text =
     record { place = refl; list = c.put_words.ensures } in
-    (stored-both ((let head : List ℕ = header_line c.args.variables c.args.clauses in head)) ((let lines : List ℕ = words_text (words_of c.args.bytes.now) in lines)) c.args.text.now 0 ((let room : 0 + length ((let head : List ℕ = header_line c.args.variables c.args.clauses in head) ++ (let lines : List ℕ = words_text (words_of c.args.bytes.now) in lines)) ≤ length c.args.text.now = omega (arith, c.requires) in room)) c.put_header-at.ensures w).list
+    (stored-both (head (goal.at.returns c).Start) (lines (goal.at.returns c).Start) c.args.text.now 0 (room (goal.at.returns c).Start) c.put_header-at.ensures w).list
 
 pub put_header-at-requires : goal.put_header-at-requires
 put_header-at-requires c =
-    omega (arith, room-left ((let head : List ℕ = header_line c.args.variables c.args.clauses in head)) ((let lines : List ℕ = words_text (words_of c.args.bytes.now) in lines)) c.args.text.now 0 ((let room : 0 + length ((let head : List ℕ = header_line c.args.variables c.args.clauses in head) ++ (let lines : List ℕ = words_text (words_of c.args.bytes.now) in lines)) ≤ length c.args.text.now = omega (arith, c.requires) in room)))
+    omega (arith, room-left (head (goal.at.put_header-at-requires c).Start) (lines (goal.at.put_header-at-requires c).Start) c.args.text.now 0 (room (goal.at.put_header-at-requires c).Start))
 
 pub put_words-requires : goal.put_words-requires
 put_words-requires c =
-    room-right ((let head : List ℕ = header_line c.args.variables c.args.clauses in head)) ((let lines : List ℕ = words_text (words_of c.args.bytes.now) in lines))
-    c.args.text.now 0 ((let room : 0 + length ((let head : List ℕ = header_line c.args.variables c.args.clauses in head) ++ (let lines : List ℕ = words_text (words_of c.args.bytes.now) in lines)) ≤ length c.args.text.now = omega (arith, c.requires) in room)) c.put_header-at.ensures
+    room-right (head (goal.at.put_words-requires c).Start) (lines (goal.at.put_words-requires c).Start)
+    c.args.text.now 0 (room (goal.at.put_words-requires c).Start) c.put_header-at.ensures

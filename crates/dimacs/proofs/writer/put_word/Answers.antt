@@ -9,19 +9,39 @@ use Rattle.laws.proofs.Stored.{room-right, stored-both, stored_as}
 use Rattle.text.specs.Texts.{decimal}
 use Rattle.clausebytes.specs.Words.{literal_of}
 use Rattle.dimacs.proofs.Laws.Written.{zero_text, plain_text, negated_text}
+use Rattle.dimacs.proofs.writer.put_word.Goals.{Else-word-lt-SIGN, Start, Then-word-eq0, Then-word-lt-SIGN}
 use Rattle.dimacs.proofs.writer.put_word.Goals as goal
+
+-- the magnitude and a space
+abbrev field : Start → List ℕ
+field s = decimal (literal_of s.args.word).variable ++ (32 ∷ [])
+
+-- the room that was asked for, in each case
+abbrev Room : Start → List ℕ → Type 0
+Room s xs = s.args.at + length xs ≤ length s.args.text.now
+
+zero_room : (c : Then-word-eq0) → Room (goal.at.Then-word-eq0 c).Start (48 ∷ 10 ∷ [])
+zero_room c = subst (Room (goal.at.Then-word-eq0 c).Start) (zero_text c.args.word c.if-word-eq0.true) c.requires
+
+plain-room : (c : Then-word-lt-SIGN) → Room (goal.at.Then-word-lt-SIGN c).Start (field (goal.at.Then-word-lt-SIGN c).Start)
+plain-room c =
+    subst (Room (goal.at.Then-word-lt-SIGN c).Start) (plain_text c.args.word c.if-word-eq0.false c.if-word-lt-SIGN.true) c.requires
+
+negated-room : (c : Else-word-lt-SIGN) → Room (goal.at.Else-word-lt-SIGN c).Start (45 ∷ field (goal.at.Else-word-lt-SIGN c).Start)
+negated-room c =
+    subst (Room (goal.at.Else-word-lt-SIGN c).Start) (negated_text c.args.word c.if-word-eq0.false c.if-word-lt-SIGN.false) c.requires
 
 -- a zero
 pub put_byte-requires : goal.put_byte-requires
 put_byte-requires c =
     let x = c.args in
-    omega (arith, room-right (48 ∷ []) (10 ∷ []) x.text.now x.at ((let zero_room : (let Room : List ℕ → Type 0 = λ xs. c.args.at + length xs ≤ length c.args.text.now in Room (48 ∷ 10 ∷ [])) = subst ((let Room : List ℕ → Type 0 = λ xs. c.args.at + length xs ≤ length c.args.text.now in Room)) (zero_text c.args.word c.if-word-eq0.true) c.requires in zero_room)) c.put_byte-next.ensures)
+    omega (arith, room-right (48 ∷ []) (10 ∷ []) x.text.now x.at (zero_room (goal.at.put_byte-requires c).Then-word-eq0) c.put_byte-next.ensures)
 
 pub returns-then-word-eq0 : goal.returns-then-word-eq0
 returns-then-word-eq0 c =
     let x = c.args in
     stored_as (zero_text x.word c.if-word-eq0.true)
-    (stored-both (48 ∷ []) (10 ∷ []) x.text.now x.at ((let zero_room : (let Room : List ℕ → Type 0 = λ xs. c.args.at + length xs ≤ length c.args.text.now in Room (48 ∷ 10 ∷ [])) = subst ((let Room : List ℕ → Type 0 = λ xs. c.args.at + length xs ≤ length c.args.text.now in Room)) (zero_text c.args.word c.if-word-eq0.true) c.requires in zero_room)) c.put_byte-next.ensures c.put_byte.ensures)
+    (stored-both (48 ∷ []) (10 ∷ []) x.text.now x.at (zero_room (goal.at.returns-then-word-eq0 c).Then-word-eq0) c.put_byte-next.ensures c.put_byte.ensures)
 
 -- a plain literal
 pub returns-then-word-lt-SIGN : goal.returns-then-word-lt-SIGN
@@ -34,7 +54,7 @@ returns-then-word-lt-SIGN c =
 -- a negated one
 pub put_field-requires-2 : goal.put_field-requires-2
 put_field-requires-2 c =
-    rw c.magnitude-2.ensures (room-right (45 ∷ []) ((let field : List ℕ = decimal (literal_of c.args.word).variable ++ (32 ∷ []) in field)) c.args.text.now c.args.at ((let negated-room : (let Room : List ℕ → Type 0 = λ xs. c.args.at + length xs ≤ length c.args.text.now in Room (45 ∷ (let field : List ℕ = decimal (literal_of c.args.word).variable ++ (32 ∷ []) in field))) = subst ((let Room : List ℕ → Type 0 = λ xs. c.args.at + length xs ≤ length c.args.text.now in Room)) (negated_text c.args.word c.if-word-eq0.false c.if-word-lt-SIGN.false) c.requires in negated-room))
+    rw c.magnitude-2.ensures (room-right (45 ∷ []) (field (goal.at.put_field-requires-2 c).Start) c.args.text.now c.args.at (negated-room (goal.at.put_field-requires-2 c).Else-word-lt-SIGN)
     c.put_byte-next-2.ensures)
 
 pub returns : goal.returns
@@ -42,16 +62,16 @@ returns c =
     let w = subst (λ (n : ℕ). Stored (decimal n ++ (32 ∷ [])) c.put_byte-next-2.new.text c.put_byte-next-2.result c.put_field-2.result
     c.put_field-2.new.text) c.magnitude-2.ensures c.put_field-2.ensures in
     stored_as (negated_text c.args.word c.if-word-eq0.false c.if-word-lt-SIGN.false)
-    (stored-both (45 ∷ []) ((let field : List ℕ = decimal (literal_of c.args.word).variable ++ (32 ∷ []) in field)) c.args.text.now c.args.at ((let negated-room : (let Room : List ℕ → Type 0 = λ xs. c.args.at + length xs ≤ length c.args.text.now in Room (45 ∷ (let field : List ℕ = decimal (literal_of c.args.word).variable ++ (32 ∷ []) in field))) = subst ((let Room : List ℕ → Type 0 = λ xs. c.args.at + length xs ≤ length c.args.text.now in Room)) (negated_text c.args.word c.if-word-eq0.false c.if-word-lt-SIGN.false) c.requires in negated-room)) c.put_byte-next-2.ensures w)
+    (stored-both (45 ∷ []) (field (goal.at.returns c).Start) c.args.text.now c.args.at (negated-room (goal.at.returns c).Else-word-lt-SIGN) c.put_byte-next-2.ensures w)
 
 pub put_byte-next-requires : goal.put_byte-next-requires
 put_byte-next-requires c =
-    omega (arith, (let zero_room : (let Room : List ℕ → Type 0 = λ xs. c.args.at + length xs ≤ length c.args.text.now in Room (48 ∷ 10 ∷ [])) = subst ((let Room : List ℕ → Type 0 = λ xs. c.args.at + length xs ≤ length c.args.text.now in Room)) (zero_text c.args.word c.if-word-eq0.true) c.requires in zero_room))
+    omega (arith, zero_room (goal.at.put_byte-next-requires c).Then-word-eq0)
 
 pub put_field-requires : goal.put_field-requires
 put_field-requires c =
-    rw c.magnitude.ensures ((let plain-room : (let Room : List ℕ → Type 0 = λ xs. c.args.at + length xs ≤ length c.args.text.now in Room ((let field : List ℕ = decimal (literal_of c.args.word).variable ++ (32 ∷ []) in field))) = subst ((let Room : List ℕ → Type 0 = λ xs. c.args.at + length xs ≤ length c.args.text.now in Room)) (plain_text c.args.word c.if-word-eq0.false c.if-word-lt-SIGN.true) c.requires in plain-room))
+    rw c.magnitude.ensures (plain-room (goal.at.put_field-requires c).Then-word-lt-SIGN)
 
 pub put_byte-next-requires-2 : goal.put_byte-next-requires-2
 put_byte-next-requires-2 c =
-    omega (arith, (let negated-room : (let Room : List ℕ → Type 0 = λ xs. c.args.at + length xs ≤ length c.args.text.now in Room (45 ∷ (let field : List ℕ = decimal (literal_of c.args.word).variable ++ (32 ∷ []) in field))) = subst ((let Room : List ℕ → Type 0 = λ xs. c.args.at + length xs ≤ length c.args.text.now in Room)) (negated_text c.args.word c.if-word-eq0.false c.if-word-lt-SIGN.false) c.requires in negated-room))
+    omega (arith, negated-room (goal.at.put_byte-next-requires-2 c).Else-word-lt-SIGN)

@@ -6,13 +6,6 @@ use borrow.Author.Tests.{lt-ltb, le-ltb}
 use Rattle.formula.proofs.Laws.WellFormed.{right-length}
 use Rattle.formula.proofs.table.check.Goals as goal
 
-pub returns-then-length_wrong : goal.returns-then-length_wrong
-returns-then-length_wrong c = rw (← c.is_length_wrong-length_wrong.ensures, c.if-length_wrong.true)
-
-pub returns-then-too_many_options : goal.returns-then-too_many_options
-returns-then-too_many_options c =
-    rw (← c.is_length_wrong-length_wrong.ensures, c.if-length_wrong.false, c.if-too_many_options.true-raw)
-
 pub first_wrong-node-requires : goal.first_wrong-node-requires
 first_wrong-node-requires c =
     (right-length _ (sym c.is_length_wrong-length_wrong.ensures ∙ c.if-length_wrong.false)).most
@@ -34,7 +27,3 @@ returns-then-node-table c =
           c.if-node-table.true,
     )
     (rw (c.fault.ensures, c.node_at.ensures))
-
-pub returns : goal.returns
-returns c =
-    rw (← c.is_length_wrong-length_wrong.ensures, c.if-length_wrong.false, c.if-too_many_options.false-raw, ← c.first_wrong-node.ensures, le-ltb _ _ c.if-node-table.false)

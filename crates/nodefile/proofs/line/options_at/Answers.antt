@@ -4,6 +4,7 @@ use lib.ListN.{length, take}
 use lib.Seq.{length-take-le}
 use Rattle.nodefile.specs.Files.{option_line}
 use Rattle.nodefile.proofs.Laws.Lines.{next-open, options_fail, options-are}
+use Rattle.nodefile.proofs.line.options_at.Goals.{After-find-newline}
 use Rattle.nodefile.proofs.line.options_at.Goals as goal
 
 -- no newline
@@ -23,6 +24,10 @@ returns-in-Is c =
     options-are c.args.text.now c.find-newline.result c.find-newline.ensures c.if-newline-text.false _
     (sym c.in-Is.is ∙ c.options_of.ensures)
 
+-- the length of the part that is the line
+part : (c : After-find-newline) → c.find-newline.result ≡ length (take c.find-newline.result c.args.text.now)
+part c = sym (length-take-le c.find-newline.result c.args.text.now c.find-newline.ensures.within)
+
 pub slice_bounds-options_of-end : goal.slice_bounds-options_of-end
 slice_bounds-options_of-end c =
-    (let part : c.find-newline.result ≡ length (take c.find-newline.result c.args.text.now) = sym (length-take-le c.find-newline.result c.args.text.now c.find-newline.ensures.within) in part)
+    part (goal.at.slice_bounds-options_of-end c).After-find-newline

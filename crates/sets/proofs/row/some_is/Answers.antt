@@ -7,6 +7,7 @@ use Rattle.clausebytes.specs.Words.{literal_of, most_variables}
 use Rattle.sets.specs.Inner.Sets.{clause_from, some_is}
 use Rattle.sets.proofs.Laws.Walks.{clause-zero, clause-more, clause-end, literal-within, turned-inside}
 use Rattle.sets.proofs.Laws.Codes.{some-here, some_next}
+use Rattle.sets.proofs.row.some_is.Goals.{Else-word-eq0}
 use Rattle.sets.proofs.row.some_is.Goals as goal
 
 -- at a zero
@@ -17,21 +18,33 @@ returns-then-word-eq0 c =
     let none = clause-zero x.bytes.now c.loop-i.i c.word_at-word.result (omega arith) c.word_at-word.ensures c.if-word-eq0.true in
     sym (ap (some_is x.row.now x.turned) none) ∙ c.loop-i.invariant.1
 
+-- at a literal: it has a number, its bit is in the row, and it decides or the rest does
+small : (c : Else-word-eq0) → (literal_of c.word_at-word.result).variable ≤ most_variables
+small c =
+    literal-within c.args.bytes.now c.loop-i.i c.word_at-word.result (omega arith) c.word_at-word.ensures most_variables c.requires.within
+
 pub has-requires : goal.has-requires
 has-requires c =
-    omega (arith, c.code.ensures, c.requires.size, turned-inside c.args.turned (literal_of c.word_at-word.result) ((let small : (literal_of c.word_at-word.result).variable ≤ most_variables = literal-within c.args.bytes.now c.loop-i.i c.word_at-word.result (omega arith) c.word_at-word.ensures most_variables c.requires.within in small)))
+    omega (arith, c.code.ensures, c.requires.size, turned-inside c.args.turned (literal_of c.word_at-word.result) (small (goal.at.has-requires c).Else-word-eq0))
+
+-- what is left of the clause
+left : (c : Else-word-eq0)
+    → let bytes = c.args.bytes.now in
+    clause_from bytes c.loop-i.i ≡ literal_of c.word_at-word.result ∷ clause_from bytes (c.loop-i.i + 1)
+left c =
+    clause-more c.args.bytes.now c.loop-i.i c.word_at-word.result (omega arith) c.word_at-word.ensures c.if-word-eq0.false
 
 pub returns-then-has-turned : goal.returns-then-has-turned
 returns-then-has-turned c =
     let x = c.args in
-    sym (some-here x.row.now x.turned _ _ _ ((let left : let bytes = c.args.bytes.now in clause_from bytes c.loop-i.i ≡ literal_of c.word_at-word.result ∷ clause_from bytes (c.loop-i.i + 1) = clause-more c.args.bytes.now c.loop-i.i c.word_at-word.result (omega arith) c.word_at-word.ensures c.if-word-eq0.false in left)) _ c.code.ensures _ c.has.ensures c.if-has-turned.true)
+    sym (some-here x.row.now x.turned _ _ _ (left (goal.at.returns-then-has-turned c).Else-word-eq0) _ c.code.ensures _ c.has.ensures c.if-has-turned.true)
     ∙ c.loop-i.invariant.1
 
 pub loop-i-preserved : goal.loop-i-preserved
 loop-i-preserved c =
     let x = c.args in (
       refl,
-      sym (some_next x.row.now x.turned _ _ _ ((let left : let bytes = c.args.bytes.now in clause_from bytes c.loop-i.i ≡ literal_of c.word_at-word.result ∷ clause_from bytes (c.loop-i.i + 1) = clause-more c.args.bytes.now c.loop-i.i c.word_at-word.result (omega arith) c.word_at-word.ensures c.if-word-eq0.false in left)) _ c.code.ensures _ c.has.ensures c.if-has-turned.false)
+      sym (some_next x.row.now x.turned _ _ _ (left (goal.at.loop-i-preserved c).Else-word-eq0) _ c.code.ensures _ c.has.ensures c.if-has-turned.false)
           ∙ c.loop-i.invariant.1,
     )
 
@@ -47,4 +60,4 @@ loop-i-init c =
 
 pub code-requires : goal.code-requires
 code-requires c =
-    (let small : (literal_of c.word_at-word.result).variable ≤ most_variables = literal-within c.args.bytes.now c.loop-i.i c.word_at-word.result (omega arith) c.word_at-word.ensures most_variables c.requires.within in small)
+    small c

@@ -8,6 +8,7 @@ use Rattle.clausebytes.specs.Words.{literal_of, most_variables}
 use Rattle.bits.specs.Inner.Rows.{wiped}
 use Rattle.sets.specs.Inner.Sets.{clause_from, codes_of}
 use Rattle.sets.proofs.Laws.Walks.{clause-zero, clause-more, clause-end, literal-within, code_inside}
+use Rattle.sets.proofs.row.wipe.Goals.{Else-word-eq0}
 use Rattle.sets.proofs.row.wipe.Goals as goal
 
 pub returns-then-word-eq0 : goal.returns-then-word-eq0
@@ -18,9 +19,13 @@ returns-then-word-eq0 c =
     let none = clause-zero bytes l.i c.word_at-word.result (omega arith) c.word_at-word.ensures c.if-word-eq0.true in
     sym (ap (λ (x : Clause). wiped (codes_of x) l.row) none) ∙ l.invariant.2
 
+small : (c : Else-word-eq0) → (literal_of c.word_at-word.result).variable ≤ most_variables
+small c =
+    literal-within c.args.bytes.now c.loop-i.i c.word_at-word.result (omega arith) c.word_at-word.ensures most_variables c.requires.within
+
 pub bounds-row-at : goal.bounds-row-at
 bounds-row-at c =
-    omega (arith, c.code-at.ensures, c.loop-i.invariant.1, code_inside (literal_of c.word_at-word.result) ((let small : (literal_of c.word_at-word.result).variable ≤ most_variables = literal-within c.args.bytes.now c.loop-i.i c.word_at-word.result (omega arith) c.word_at-word.ensures most_variables c.requires.within in small)))
+    omega (arith, c.code-at.ensures, c.loop-i.invariant.1, code_inside (literal_of c.word_at-word.result) (small (goal.at.bounds-row-at c).Else-word-eq0))
 
 pub loop-i-preserved : goal.loop-i-preserved
 unfolding wiped
@@ -53,7 +58,7 @@ shape_of-row-then-word-eq0 c =
 
 pub code-at-requires : goal.code-at-requires
 code-at-requires c =
-    (let small : (literal_of c.word_at-word.result).variable ≤ most_variables = literal-within c.args.bytes.now c.loop-i.i c.word_at-word.result (omega arith) c.word_at-word.ensures most_variables c.requires.within in small)
+    small c
 
 pub shape_of-row : goal.shape_of-row
 shape_of-row c =
