@@ -23,21 +23,21 @@ refused number place = record { number = number; place = place; first = 0; secon
 abbrev pub Answer : Type 0
 Answer = Result Accepted Refusal
 
-abbrev pub accepted : ℕ → ℕ → Answer
-accepted first second = Ok (record { first = first; second = second })
+abbrev pub accepted_with : ℕ → ℕ → Answer
+accepted_with first second = Ok (record { first = first; second = second })
 
 -- R10.12, R10.20 to R10.22: the numbers of the faults of a record
-abbrev pub fault_number : Fault → ℕ
-fault_number UnknownKind = 3
-fault_number UnusedNotZero = 12
-fault_number ChildNotBelow = 13
-fault_number SymbolOutside = 14
+abbrev pub number_of_fault : Fault → ℕ
+number_of_fault UnknownKind = 3
+number_of_fault UnusedNotZero = 12
+number_of_fault ChildNotBelow = 13
+number_of_fault SymbolOutside = 14
 
 -- R10.9 to R10.19; the number of a wrong record is that of its fault. Only of a text can a place be over the largest that shows (R10.5)
 abbrev pub refusal_told : Refusal → Told
 refusal_told TableLength = refused 1 0
 refusal_told Options = refused 2 0
-refusal_told (Record fault node) = refused (fault_number fault) node
+refusal_told (Record fault node) = refused (number_of_fault fault) node
 refusal_told (Set node) = refused 4 node
 refusal_told Clauses = refused 5 0
 refusal_told Literals = refused 6 0

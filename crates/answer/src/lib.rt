@@ -4,7 +4,7 @@
 ghost use Rattle.std.specs.Prelude.{not, ◌≡◌, ◌+◌, ◌≤◌, eqb, length};
 ghost use Rattle.laws.specs.Lists.{splice};
 ghost use Rattle.laws.specs.Numbers.{cap, little};
-ghost use Rattle.answer.specs.Answers.{fault_number, refused, refusal_told, told_of, most_shown};
+ghost use Rattle.answer.specs.Answers.{number_of_fault, refused, refusal_told, told_of, most_shown};
 ghost use Rattle.answer.specs.Inner.Given.{Given};
 
 // What a call that is not refused reports. The two numbers are variables or picks, and clauses or total; of a bare check both are 0.
@@ -15,7 +15,7 @@ pub struct Accepted {
 }
 
 // What is wrong with a record, in the order in which it is looked for.
-#[derive(Clone, Copy)]
+#[derive(Clone, Copy, PartialEq, Eq)]
 pub enum Fault {
     UnknownKind,
     // A field that its kind does not use is not zero.
@@ -76,7 +76,7 @@ pub struct Told {
 impl Fault {
     // The number of the refusal that a record with this fault earns.
     pub fn number(self) -> u32
-        ensures { result ≡ fault_number self }
+        ensures { result ≡ number_of_fault self }
     {
         match self {
             Fault::UnknownKind => 3,
