@@ -15,7 +15,7 @@ use Rattle.answer.specs.declared.Refusal.TheVariants.{ClauseBytes, Room}
 use Rattle.clausal.specs.Clauses.{Clause, clauses_bytes}
 use Rattle.clausebytes.specs.Words.{clauses_of}
 use Rattle.clausebytes.specs.Inner.Checks.{checked_of}
-use Rattle.clausebytes.specs.declared.check.Checked.TheVariants.{Wrong}
+use Rattle.std.specs.Prelude.{None}
 use Rattle.clausebytes.proofs.Laws.Checking.{Found, refused_of_checked}
 use Rattle.tidied.specs.Tidying.{tidied, changes_of, change_lines}
 use Rattle.tidied.specs.Calls.{Outputs, tidy_call}
@@ -34,7 +34,7 @@ abbrev lines_size : List ℕ → ℕ
 lines_size bytes = length (change_lines (changes_of (clauses_of bytes)))
 
 -- refusal 9
-pub call_refused : (bytes : List ℕ) (v : ℕ) (out lines : List ℕ) → checked_of bytes v ≡ Wrong
+pub call_refused : (bytes : List ℕ) (v : ℕ) (out lines : List ℕ) → checked_of bytes v ≡ None
     → record { answer = Err ClauseBytes; output = outputs out lines } ≡ tidy_call bytes v (outputs out lines)
 call_refused bytes v out lines e = rw (refused_of_checked bytes v e)
 
