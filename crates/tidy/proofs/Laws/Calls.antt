@@ -1,13 +1,14 @@
 -- What the call that tidies gives, in each of its cases. Assumes nothing.
 use mathlib.Core.Path.{◌≡◌, refl, sym, ap, ◌∙◌}
-use mathlib.Core.Bool.{Bool, true, false, false≢true, ◌||◌}
+use mathlib.Core.Bool.{Bool, true, false, false≢true, ◌&&◌, ◌||◌}
 use mathlib.Core.List.{List}
 use Prim.Native.Nat.{ℕ, ◌≤◌, ◌<◌}
 use native.Mathlib.Nat.{zero-add}
 use native.Mathlib.Omega.{arith}
-use lib.Dec.{ltb}
+use lib.Dec.{ltb, leb}
 use lib.ListN.{length}
-use borrow.Author.Tests.{lt-ltb, le-ltb}
+use borrow.Author.Tests.{lt-ltb, le-ltb, leb-true, leb-false}
+use Rattle.laws.proofs.Choices.{both}
 use Rattle.laws.specs.Lists.{splice}
 use Rattle.answer.specs.Answers.{accepted_with}
 use Rattle.std.specs.Prelude.{Err}
@@ -68,36 +69,49 @@ module _ {bytes : List ℕ} {v k n : ℕ} (f : Found bytes v k n) {out lines : L
         (λ i. record { answer = Err Room; output = outputs (d.kept_put.list i) (d.lines_put.list i) })
         ∙ sym (rw (f.not_wrong, e))
 
-    pub call_kept_short : length mid < q.kept
-        → record { answer = Err Room; output = outputs mid left } ≡ tidy_call bytes v (outputs out lines)
-    call_kept_short h =
-        let less : length out < kept_size bytes = omega (arith, kept-size, ap length d.kept_put.list) in
-        short (rw (lt-ltb (length out) (kept_size bytes) less))
+    -- what is asked of both
+    abbrev fits_in : Bool
+    fits_in = leb q.kept (length mid) && leb q.lines (length left)
 
-    pub call_lines_short : length left < q.lines
-        → record { answer = Err Room; output = outputs mid left } ≡ tidy_call bytes v (outputs out lines)
-    call_lines_short h =
-        let less : length lines < lines_size bytes = omega (arith, lines-size, ap length d.lines_put.list) in
-        short (rw (lt-ltb (length lines) (lines_size bytes) less) (go (ltb (length out) (kept_size bytes))))
+    pub call_short : fits_in ≡ false → record { answer = Err Room; output = outputs mid left } ≡ tidy_call bytes v (outputs out lines)
+    call_short e = short (go (leb q.kept (length mid)) (leb q.lines (length left)) refl refl e)
       where
-        go : (b : Bool) → (b || true) ≡ true
-        go true = refl
-        go false = refl
+        too-long : (b : Bool) → (b || true) ≡ true
+        too-long true = refl
+        too-long false = refl
+
+        kept-short : leb q.kept (length mid) ≡ false → length out < kept_size bytes
+        kept-short f = omega (arith, kept-size, ap length d.kept_put.list, leb-false q.kept (length mid) f)
+
+        lines-short : leb q.lines (length left) ≡ false → length lines < lines_size bytes
+        lines-short f = omega (arith, lines-size, ap length d.lines_put.list, leb-false q.lines (length left) f)
+
+        go : (a b : Bool) → leb q.kept (length mid) ≡ a → leb q.lines (length left) ≡ b → (a && b) ≡ false
+            → (ltb (length out) (kept_size bytes) || ltb (length lines) (lines_size bytes)) ≡ true
+        go false b f g h = rw (lt-ltb (length out) (kept_size bytes) (kept-short f))
+        go true b f g h =
+            rw (lt-ltb (length lines) (lines_size bytes) (lines-short (g ∙ h))) (too-long (ltb (length out) (kept_size bytes)))
 
     -- both have room
-    module _ (kept_room : q.kept ≤ length mid) (lines_room : q.lines ≤ length left) where
+    module _ (fit : fits_in ≡ true) where
+      kept_room : q.kept ≤ length mid
+      kept_room = leb-true q.kept (length mid) (both (leb q.kept (length mid)) (leb q.lines (length left)) fit).0
+
+      lines_room : q.lines ≤ length left
+      lines_room = leb-true q.lines (length left) (both (leb q.kept (length mid)) (leb q.lines (length left)) fit).1
+
       pub whole-written : Whole bytes v k true mid left
       whole-written = record {
         right = f.not_wrong;
         count_is = sym f.clauses_are;
-        kept_room = λ e. omega (arith, kept-size);
-        lines_room = λ e. omega (arith, lines-size);
+        kept_room = λ e. omega (arith, kept-size, kept_room);
+        lines_room = λ e. omega (arith, lines-size, lines_room);
       }
 
       fits : (ltb (length out) (kept_size bytes) || ltb (length lines) (lines_size bytes)) ≡ false
       fits =
-          let a : kept_size bytes ≤ length out = omega (arith, kept-size, ap length d.kept_put.list) in
-          let b : lines_size bytes ≤ length lines = omega (arith, lines-size, ap length d.lines_put.list) in
+          let a : kept_size bytes ≤ length out = omega (arith, kept-size, ap length d.kept_put.list, kept_room) in
+          let b : lines_size bytes ≤ length lines = omega (arith, lines-size, ap length d.lines_put.list, lines_room) in
           rw (le-ltb (length out) (kept_size bytes) a, le-ltb (length lines) (lines_size bytes) b)
 
       pub call_written : {o l : List ℕ} {r : Pen} → DrawnAll (clauses_of bytes) true mid left o l r

@@ -1,10 +1,13 @@
 -- `tidy::tidy` meets its contract: what the check found decides, then what was measured: refusal 9, refusal 7, or both
 -- outputs are written. Assumes nothing.
-use mathlib.Core.Path.{sym, ◌∙◌}
+use mathlib.Core.Path.{◌≡◌, sym, ◌∙◌}
+use mathlib.Core.Bool.{true, ◌&&◌}
+use lib.Dec.{leb}
+use lib.ListN.{length}
 use Rattle.clausebytes.proofs.Laws.Checking.{Found, found_of_checked}
-use Rattle.tidy.proofs.Laws.Calls.{call_refused, whole-measured, call_kept_short, call_lines_short}
+use Rattle.tidy.proofs.Laws.Calls.{call_refused, whole-measured, call_short}
 use Rattle.tidy.proofs.Laws.Calls.{whole-written, call_written}
-use Rattle.tidy.proofs.tidy.Goals.{In-Some, then-out-measured-via-then-out-measured, then-out-measured-via-else-out-measured+then-changes-measured}
+use Rattle.tidy.proofs.tidy.Goals.{In-Some, Else-not-fits}
 use Rattle.tidy.proofs.tidy.Goals as goal
 
 -- what the check found
@@ -19,24 +22,22 @@ returns-in_default c =
     let x = c.args in
     call_refused x.clauses.now x.variables _ _ (sym c.check.ensures ∙ c.in_default.is)
 
--- either buffer is too short
-pub returns-then-out-measured : goal.returns-then-out-measured
-returns-then-out-measured c =
-    let f = found (goal.at.returns-then-out-measured c).In-Some in
-    elim c.then-out-measured.branch [
-      | then-out-measured-via-then-out-measured w ↦ call_kept_short f c.put_all-measured.ensures w.if-out-measured.true
-      | then-out-measured-via-else-out-measured+then-changes-measured w ↦ call_lines_short f c.put_all-measured.ensures w.if-changes-measured.true
-    ]
+-- either buffer is too short, or both have room
+pub returns-then-not-fits : goal.returns-then-not-fits
+returns-then-not-fits c =
+    call_short (found (goal.at.returns-then-not-fits c).In-Some) c.put_all-measured.ensures (sym c.fits.ensures ∙ c.if-not-fits.true)
 
--- both have room
+fit : (c : Else-not-fits) → let pen = c.put_all-measured.result in
+    (leb pen.kept (length c.put_all-measured.new.out) && leb pen.lines (length c.put_all-measured.new.lines)) ≡ true
+fit c = sym c.fits.ensures ∙ c.if-not-fits.false
+
 pub put_all-requires : goal.put_all-requires
 put_all-requires c =
-    whole-written (found (goal.at.put_all-requires c).In-Some) c.put_all-measured.ensures c.if-out-measured.false c.if-changes-measured.false
+    whole-written (found (goal.at.put_all-requires c).In-Some) c.put_all-measured.ensures (fit (goal.at.put_all-requires c).Else-not-fits)
 
 pub returns : goal.returns
 returns c =
-    call_written (found (goal.at.returns c).In-Some) c.put_all-measured.ensures c.if-out-measured.false c.if-changes-measured.false
-    c.put_all.ensures
+    call_written (found (goal.at.returns c).In-Some) c.put_all-measured.ensures (fit (goal.at.returns c).Else-not-fits) c.put_all.ensures
 
 pub put_all-measured-requires : goal.put_all-measured-requires
 put_all-measured-requires c =
