@@ -5,7 +5,7 @@ ghost use Rattle.formula.specs.Tables.{node_count, nodes_of};
 ghost use Rattle.marks.specs.Sets.{renamed, operator, reached, may_rename, byte_right, first_wrong_byte, set_checked};
 
 use crate::mark::{Mark, read};
-use answer::Answer;
+use answer::{Accepted, Answer, Refusal};
 use formula::node::{Kind, NODE_BYTES, node_at};
 
 // Whether node `i` is renamed.
@@ -94,14 +94,14 @@ pub fn check(table: &[u8], marks: &[u8; 1024], set: &[u8]) -> Answer
 {
     let count = table.len() / NODE_BYTES;
     if set.len() != count {
-        return Answer::Set { node: count as u32 };
+        return Err(Refusal::Set { node: count as u32 });
     }
     let node = first_wrong(table, marks, set);
     if node < count {
-        return Answer::Set { node: node as u32 };
+        return Err(Refusal::Set { node: node as u32 });
     }
-    Answer::Accepted {
+    Ok(Accepted {
         first: 0,
         second: 0,
-    }
+    })
 }

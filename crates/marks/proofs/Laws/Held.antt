@@ -6,9 +6,9 @@ use mathlib.Core.List.{List, [], ◌∷◌, ◌++◌, map}
 use Prim.Native.Nat.{ℕ, zero, suc, ◌+◌, ◌-◌, ◌≤◌, ◌<◌}
 use native.Mathlib.Omega.{arith}
 use lib.Dec.{ltb}
-use lib.ListN.{length, get_or, set, replicate, length-map, length-replicate, length-set, get_or-map, replicate-append-replicate}
+use lib.ListN.{length, set, replicate, length-map, length-replicate, length-set, get_or-map, replicate-append-replicate}
 use lib.Seq.{set_out}
-use borrow.Author.Tests.{ltb-true, ltb-false, lt-ltb, le-ltb}
+use borrow.Author.Tests.{ltb-true, ltb-false}
 use Rattle.laws.specs.Inner.Stores.{pad_to}
 use Rattle.laws.proofs.Arrays.{get_d_pad, pad_set}
 use Rattle.formula.specs.Tables.{most_nodes}

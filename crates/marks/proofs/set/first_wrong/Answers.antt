@@ -1,7 +1,6 @@
 -- `marks::set::first_wrong` meets its contract. The loop looks for the lowest wrong byte; the measure is the number of nodes left.
 -- Assumes nothing.
 use mathlib.Core.Path.{◌≡◌, sym, ◌∙◌}
-use Prim.Native.Nat.{◌-◌}
 use native.Mathlib.Omega.{arith}
 use borrow.Author.Tests.{not-true, not-false}
 use lib.ListN.{length}
