@@ -6,6 +6,7 @@ ghost use Rattle.clausal.specs.Clauses.{renaming};
 ghost use Rattle.clausal.specs.Calls.{measured, measured_under};
 
 use crate::prepare::prepare;
+use crate::rows::Columns;
 use answer::{Answer, is_refusal};
 use formula::node::MOST_NODES;
 
@@ -15,9 +16,8 @@ fn measure_under(table: &[u8], set: &[u8]) -> Answer
     ensures { result ≡ measured_under (renaming 0 set.now) (nodes_of table.now) }
 {
     let mut marks = [0u8; MOST_NODES];
-    let mut clauses = [[0u16; MOST_NODES]; 2];
-    let mut literals = [[0u32; MOST_NODES]; 2];
-    let prepared = prepare(table, set, &mut marks, &mut clauses, &mut literals);
+    let mut columns = Columns::blank();
+    let prepared = prepare(table, set, &mut marks, &mut columns);
     let right = prepared.right;
     if is_refusal(right) {
         return right;

@@ -1,7 +1,7 @@
 // What every call that goes on from a table and a set does first: marks, the check of the set, and the totals.
 ghost use Rattle.totals.specs.Inner.Prepared.{Blank, Prepares};
 
-use crate::rows::fill;
+use crate::rows::Columns;
 use crate::whole::whole;
 use answer::{Answer, is_refusal};
 use capped::total::Total;
@@ -15,15 +15,9 @@ pub struct Prepared {
 }
 
 // Marks the nodes of a table that is right, checks a set, and fills in the totals of all nodes under it.
-pub fn prepare(
-    table: &[u8],
-    set: &[u8],
-    marks: &mut [u8; 1024],
-    clauses: &mut [[u16; 1024]; 2],
-    literals: &mut [[u32; 1024]; 2],
-) -> Prepared
-    requires { Blank table.now marks.old clauses.old literals.old }
-    ensures { Prepares table.now set.now result marks.new clauses.new literals.new }
+pub fn prepare(table: &[u8], set: &[u8], marks: &mut [u8; 1024], columns: &mut Columns) -> Prepared
+    requires { Blank table.now marks.old columns.old.clauses columns.old.literals }
+    ensures { Prepares table.now set.now result marks.new columns.new.clauses columns.new.literals }
 {
     mark_all(table, marks);
     let right = marks::set::check(table, marks, set);
@@ -33,7 +27,7 @@ pub fn prepare(
             sum: Total::none(),
         };
     }
-    fill(table, set, 0, clauses, literals);
-    let sum = whole(table, marks, set, 0, clauses, literals);
+    columns.fill(table, set, 0);
+    let sum = whole(table, marks, set, 0, columns);
     Prepared { right, sum }
 }

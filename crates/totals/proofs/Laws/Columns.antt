@@ -22,12 +22,12 @@ use Rattle.clausal.specs.Clauses.{Renaming, renaming, name_of, seen, row_from}
 use Rattle.clausal.specs.Totals.{Size, capped}
 use Rattle.clausal.proofs.Reuse.{rows_kept_by_trial}
 use Rattle.clausal.proofs.Rows.{get_d_rows, row_from_lem, row-past, seen_plain, seen-renamed}
-use Rattle.totals.specs.Inner.Columns.{cell, row_in, child_in, row_next, row_totals, Ready}
+use Rattle.totals.specs.Inner.Columns.{cell, row_in, child_in, row_next, row_totals, zeros, Ready}
 use Rattle.capped.specs.Inner.Sized.{as_total}
 use Rattle.totals.specs.Inner.Rowed.{rowed, as_row}
 use Rattle.totals.specs.declared.rows.Row.{Row}
 use Rattle.capped.specs.declared.total.Total.{Total}
-use Rattle.totals.proofs.Laws.Grids.{put_both, both_shaped, both_positive, both_negative, both-other, zeros, zeros_shaped, zeros-cell}
+use Rattle.totals.proofs.Laws.Grids.{put_both, both_shaped, both_positive, both_negative, both-other, zeros_shaped, zeros-cell}
 use Rattle.totals.proofs.Laws.Grids.{same_cells}
 
 -- the row of a node, from the totals of its P and its N

@@ -5,7 +5,7 @@ use mathlib.Core.Bool.{Bool, true, false, cond}
 use mathlib.Core.List.{List}
 use Prim.Native.Nat.{ℕ}
 use native.Mathlib.Omega.{arith}
-use lib.ListN.{length, replicate}
+use lib.ListN.{length}
 use Rattle.answer.specs.Answers.{refuses}
 use Rattle.answer.specs.declared.Answer.{Answer}
 use Rattle.answer.proofs.Laws.Order.{tested}
@@ -18,8 +18,8 @@ use Rattle.clausal.specs.Clauses.{renaming}
 use Rattle.clausal.specs.Totals.{sizes, totals}
 use Rattle.capped.specs.Inner.Sized.{as_total}
 use Rattle.capped.specs.declared.total.Total.{Total}
-use Rattle.totals.specs.Inner.Columns.{Ready, Fillable}
-use Rattle.totals.specs.Inner.Prepared.{zeros, Blank, prepared_of, Prepares}
+use Rattle.totals.specs.Inner.Columns.{zeros, Ready, Fillable}
+use Rattle.totals.specs.Inner.Prepared.{Blank, prepared_of, Prepares}
 use Rattle.totals.specs.Inner.Sums.{Summable}
 use Rattle.totals.specs.declared.prepare.Prepared.{Prepared}
 use Rattle.totals.proofs.Laws.Columns.{ready-start, ready-clauses, ready-literals}

@@ -2,7 +2,6 @@
 -- Assumes nothing: these are definitions.
 use Rattle.std.specs.Prelude.{true, false, cond, List, ◌≡◌, ℕ, length, replicate}
 use Rattle.answer.specs.Answers.{refuses}
-use Rattle.answer.specs.declared.Answer.{Answer}
 use Rattle.formula.specs.Inner.Right.{RightLength}
 use Rattle.formula.specs.Tables.{most_nodes, node_count, nodes_of}
 use Rattle.marks.specs.Inner.Held.{Marked}
@@ -10,12 +9,8 @@ use Rattle.marks.specs.Sets.{set_checked}
 use Rattle.clausal.specs.Clauses.{renaming}
 use Rattle.clausal.specs.Totals.{sizes, totals}
 use Rattle.capped.specs.Inner.Sized.{as_total}
-use Rattle.totals.specs.Inner.Columns.{Ready}
+use Rattle.totals.specs.Inner.Columns.{zeros, Ready}
 use Rattle.totals.specs.declared.prepare.Prepared.{Prepared}
-
--- both rows of an array, before anything is filled in
-abbrev pub zeros : List (List ℕ)
-zeros = replicate 2 (replicate most_nodes 0)
 
 -- a table of a right length, and arrays of zeros
 pub record Blank (t marks : List ℕ) (cs ls : List (List ℕ)) : Type 0 where

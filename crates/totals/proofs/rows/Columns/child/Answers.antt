@@ -1,7 +1,7 @@
--- `totals::rows::child` meets its contract: the helper of a renamed node, else the node's own row where it is below.
+-- `totals::rows::Columns::child` meets its contract: the helper of a renamed node, else the node's own row where it is below.
 -- Assumes nothing.
 use borrow.Author.Tests.{lt-ltb, le-ltb}
-use Rattle.totals.proofs.rows.child.Goals as goal
+use Rattle.totals.proofs.rows.Columns.child.Goals as goal
 
 pub returns-then-is_renamed : goal.returns-then-is_renamed
 returns-then-is_renamed c =
