@@ -1,37 +1,26 @@
--- `marks::set::first_wrong` meets its contract. The loop looks for the lowest wrong byte; the measure is the number of nodes left.
+-- `marks::set::first_wrong` meets its contract. The loop looks for the lowest wrong byte.
 -- Assumes nothing.
 use mathlib.Core.Path.{◌≡◌, sym, ◌∙◌}
-use Prim.Native.Nat.{◌-◌}
 use native.Mathlib.Omega.{arith}
-use borrow.Author.Tests.{not-true, not-false}
-use lib.ListN.{length}
 use Rattle.laws.proofs.First.{looking_start, looking_more, looking_here, looking_end}
-use Rattle.formula.specs.Tables.{node_count, nodes_of}
+use Rattle.formula.specs.Tables.{node_count}
 use Rattle.formula.proofs.Laws.Tables.{length-nodes_of}
-use Rattle.marks.proofs.set.first_wrong.Goals.{At-loop-i}
 use Rattle.marks.proofs.set.first_wrong.Goals as goal
 
-pub is_byte_right-requires : goal.is_byte_right-requires
-is_byte_right-requires c =
-    record { marked_at = record { marked = c.requires.marked; inside = omega arith }; i_in_bounds = omega arith }
-
--- the loop counts the nodes of the list
-count : (c : At-loop-i) → let t = c.args.table.now in length (nodes_of t) ≡ node_count t
-count c = length-nodes_of c.args.table.now
+pub loop-i-init : goal.loop-i-init
+loop-i-init c = looking_start _ _
 
 pub returns-then-not-is_byte_right : goal.returns-then-not-is_byte_right
 returns-then-not-is_byte_right c =
-    looking_here _ _ c.loop-i.i c.loop-i.invariant (omega (arith, count (goal.at.returns-then-not-is_byte_right c).At-loop-i))
-    (sym c.is_byte_right.ensures ∙ not-true _ c.if-not-is_byte_right.true-raw)
+    looking_here _ _ c.loop-i.i c.loop-i.invariant (omega (arith, length-nodes_of c.args.table.now))
+    (sym c.is_byte_right.ensures ∙ c.if-not-is_byte_right.true)
 
 pub loop-i-preserved : goal.loop-i-preserved
 loop-i-preserved c =
-    looking_more _ _ c.loop-i.i c.loop-i.invariant (omega (arith, count (goal.at.loop-i-preserved c).At-loop-i))
-    (sym c.is_byte_right.ensures ∙ not-false _ c.if-not-is_byte_right.false-raw)
+    looking_more _ _ c.loop-i.i c.loop-i.invariant (omega (arith, length-nodes_of c.args.table.now))
+    (sym c.is_byte_right.ensures ∙ c.if-not-is_byte_right.false)
 
 pub returns : goal.returns
-returns c = looking_end _ _ c.loop-i.i c.loop-i.invariant (omega (arith, count (goal.at.returns c).At-loop-i))
-
-pub loop-i-init : goal.loop-i-init
-loop-i-init c =
-    looking_start _ _
+returns c =
+    let done : node_count c.args.table.now ≡ c.loop-i.i = omega arith in
+    done ∙ looking_end _ _ c.loop-i.i c.loop-i.invariant (omega (arith, length-nodes_of c.args.table.now))

