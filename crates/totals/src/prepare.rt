@@ -5,7 +5,7 @@ use crate::rows::Columns;
 use crate::whole::whole;
 use answer::{Answer, is_refusal};
 use capped::total::Total;
-use marks::mark::mark_all;
+use marks::mark::{Marks, mark_all};
 
 // The check of a set, and the totals under it where it is right.
 #[derive(Clone, Copy)]
@@ -15,7 +15,7 @@ pub struct Prepared {
 }
 
 // Marks the nodes of a table that is right, checks a set, and fills in the totals of all nodes under it.
-pub fn prepare(table: &[u8], set: &[u8], marks: &mut [u8; 1024], columns: &mut Columns) -> Prepared
+pub fn prepare(table: &[u8], set: &[u8], marks: &mut Marks, columns: &mut Columns) -> Prepared
     requires { Blank table.now marks.old columns.old.clauses columns.old.literals }
     ensures { Prepares table.now set.now result marks.new columns.new.clauses columns.new.literals }
 {
@@ -24,7 +24,7 @@ pub fn prepare(table: &[u8], set: &[u8], marks: &mut [u8; 1024], columns: &mut C
     if is_refusal(right) {
         return Prepared {
             right,
-            sum: Total::none(),
+            sum: Total::NONE,
         };
     }
     columns.fill(table, set, 0);
