@@ -5,7 +5,7 @@ ghost use Rattle.formula.specs.Tables.{node_count, nodes_of};
 ghost use Rattle.marks.specs.Sets.{renamed, operator, reached, may_rename, byte_right, first_wrong_byte, set_checked};
 
 use crate::mark::{Mark, Marks, read};
-use answer::Answer;
+use answer::{Accepted, Answer, Refusal};
 use formula::node::{Kind, NODE_BYTES, node_at};
 
 // Whether node `i` is renamed.
@@ -55,21 +55,6 @@ fn is_byte_right(table: &[u8], marks: &Marks, set: &[u8], i: usize) -> bool
     }
 }
 
-// The lowest node whose byte is wrong, or the node count.
-fn first_wrong(table: &[u8], marks: &Marks, set: &[u8]) -> usize
-    requires marked { Marked table.now marks.now }
-    requires set_len { length set.now ≡ node_count table.now }
-    ensures { result ≡ first_wrong_byte (nodes_of table.now) set.now }
-{
-    let count = table.len() / NODE_BYTES;
-    for i in 0..count {
-        if !is_byte_right(table, marks, set, i) {
-            return i;
-        }
-    }
-    count
-}
-
 // Checks a set for a checked table; `marks` are the marks of the table's nodes.
 pub fn check(table: &[u8], marks: &Marks, set: &[u8]) -> Answer
     requires { Marked table.now marks.now }
@@ -77,14 +62,15 @@ pub fn check(table: &[u8], marks: &Marks, set: &[u8]) -> Answer
 {
     let count = table.len() / NODE_BYTES;
     if set.len() != count {
-        return Answer::Set { node: count as u32 };
+        return Err(Refusal::Set { node: count as u32 });
     }
-    let node = first_wrong(table, marks, set);
-    if node < count {
-        return Answer::Set { node: node as u32 };
+    for i in 0..count {
+        if !is_byte_right(table, marks, set, i) {
+            return Err(Refusal::Set { node: i as u32 });
+        }
     }
-    Answer::Accepted {
+    Ok(Accepted {
         first: 0,
         second: 0,
-    }
+    })
 }

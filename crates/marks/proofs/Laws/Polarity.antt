@@ -10,7 +10,7 @@ use lib.Dec.{T, eqb, ltb}
 use lib.ListN.{length, replicate, length-set, length-replicate, get_or-eq_default, get_or-replicate}
 use lib.Seq.{get_or-set_same, get_or-set_other, set_out}
 use borrow.Author.Tests.{eqb-true, eqb-false, ltb-true, ltb-false}
-use Rattle.answer.specs.declared.Answer.TheVariants.{Accepted}
+use Rattle.answer.specs.Answers.{accepted_with}
 use Rattle.formula.specs.Tables.{nodes_of, node_in}
 use Rattle.formula.specs.Checks.{checked}
 use Rattle.marks.specs.Marks.{unmarked, positive, joined, to_a, to_b, mark_in, mark, pass_on, down_from, root_marked}
@@ -214,7 +214,7 @@ module _ (ns : List Node) where
     marked h (equivalent_b {s} z i r e) = to_b_lem i z e (doubled-has (mark_of ns i) s z (marked h r))
 
 -- a node of an accepted table has a sign if and only if some path from the root gives it
-pub marks_are_paths : (t : List ℕ) (v x y : ℕ) → checked t v ≡ Accepted x y → (z : Bool) (i : ℕ)
+pub marks_are_paths : (t : List ℕ) (v x y : ℕ) → checked t v ≡ accepted_with x y → (z : Bool) (i : ℕ)
     → T (has z (mark_of (nodes_of t) i)) ↔ Reached (nodes_of t) z i
 marks_are_paths t v x y e z i =
     let ns : List Node = nodes_of t in
