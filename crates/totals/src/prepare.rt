@@ -1,39 +1,25 @@
 // What every call that goes on from a table and a set does first: marks, the check of the set, and the totals.
 ghost use Rattle.totals.specs.Inner.Prepared.{Blank, Prepares};
 
-use crate::rows::fill;
+use crate::rows::Columns;
 use crate::whole::whole;
-use answer::{Answer, is_refusal};
+use answer::Refusal;
 use capped::total::Total;
-use marks::mark::mark_all;
+use marks::mark::{Marks, mark_all};
 
-// The check of a set, and the totals under it where it is right.
-#[derive(Clone, Copy)]
-pub struct Prepared {
-    pub right: Answer,
-    pub sum: Total,
-}
-
-// Marks the nodes of a table that is right, checks a set, and fills in the totals of all nodes under it.
+// Marks the nodes of a table that is right, checks a set, and fills in the totals of all nodes under it. It gives those of the
+// whole formula, or the refusal of the set.
 pub fn prepare(
     table: &[u8],
     set: &[u8],
-    marks: &mut [u8; 1024],
-    clauses: &mut [[u16; 1024]; 2],
-    literals: &mut [[u32; 1024]; 2],
-) -> Prepared
-    requires { Blank table.now marks.old clauses.old literals.old }
-    ensures { Prepares table.now set.now result marks.new clauses.new literals.new }
+    marks: &mut Marks,
+    columns: &mut Columns,
+) -> Result<Total, Refusal>
+    requires { Blank table.now marks.old columns.old.clauses columns.old.literals }
+    ensures { Prepares table.now set.now result marks.new columns.new.clauses columns.new.literals }
 {
     mark_all(table, marks);
-    let right = marks::set::check(table, marks, set);
-    if is_refusal(right) {
-        return Prepared {
-            right,
-            sum: Total::none(),
-        };
-    }
-    fill(table, set, 0, clauses, literals);
-    let sum = whole(table, marks, set, 0, clauses, literals);
-    Prepared { right, sum }
+    marks::set::check(table, marks, set)?;
+    columns.fill(table, set, 0);
+    Ok(whole(table, marks, set, 0, columns))
 }

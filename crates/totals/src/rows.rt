@@ -3,11 +3,11 @@ ghost use Rattle.std.specs.Prelude.{◌≡◌, ◌<◌, ◌≤◌};
 ghost use Rattle.formula.specs.Tables.{most_nodes, node_at, node_count, nodes_of};
 ghost use Rattle.clausal.specs.Clauses.{row_by};
 ghost use Rattle.clausal.specs.Totals.{capped};
-ghost use Rattle.totals.specs.Inner.Columns.{row_in, child_in, row_next, Ready, Fillable};
+ghost use Rattle.totals.specs.Inner.Columns.{blank, row_in, child_in, row_next, Ready, Fillable};
 ghost use Rattle.totals.specs.Inner.Rowed.{rowed, as_row};
 
 use capped::total::{ClauseTotal, LiteralTotal, Total};
-use formula::node::{Kind, NODE_BYTES, Node, node_at};
+use formula::node::{Kind, MOST_NODES, NODE_BYTES, Node, node_at};
 use marks::set::is_renamed;
 
 // The totals of P and of N of a node.
@@ -17,133 +17,136 @@ pub struct Row {
     pub n: Total,
 }
 
+impl Row {
+    // A node that is none of a table.
+    const NONE: Row = Row {
+        p: Total::NONE,
+        n: Total::NONE,
+    };
+
+    // A variable: one clause of one literal for either sign.
+    const UNIT: Row = Row {
+        p: Total::UNIT,
+        n: Total::UNIT,
+    };
+}
+
+// The totals of P and of N of every node, in columns: clauses and literals, each for both signs.
+#[derive(Drop)]
+pub struct Columns {
+    pub clauses: [[u16; MOST_NODES]; 2],
+    pub literals: [[u32; MOST_NODES]; 2],
+}
+
 // The rule of a node: `x` and `y` are its children's rows.
 fn row_by(node: Node, x: Row, y: Row) -> Row
     ensures { result ≡ as_row (row_by capped node.kind node.a (rowed x) (rowed y)) }
 {
-    let kind = node.kind;
-    let xp = x.p;
-    let xn = x.n;
-    let yp = y.p;
-    let yn = y.n;
-    match kind {
+    match node.kind {
         Kind::False => Row {
-            p: Total::empty(),
-            n: Total::none(),
+            p: Total::EMPTY,
+            n: Total::NONE,
         },
         Kind::True => Row {
-            p: Total::none(),
-            n: Total::empty(),
+            p: Total::NONE,
+            n: Total::EMPTY,
         },
-        Kind::Symbol => Row {
-            p: Total::unit(),
-            n: Total::unit(),
-        },
-        Kind::Not => Row { p: xn, n: xp },
+        Kind::Symbol => Row::UNIT,
+        Kind::Not => Row { p: x.n, n: x.p },
         Kind::And => Row {
-            p: xp.cat(yp),
-            n: xn.join(yn),
+            p: x.p.cat(y.p),
+            n: x.n.join(y.n),
         },
         Kind::Or => Row {
-            p: xp.join(yp),
-            n: xn.cat(yn),
+            p: x.p.join(y.p),
+            n: x.n.cat(y.n),
         },
         Kind::Implies => Row {
-            p: xn.join(yp),
-            n: xp.cat(yn),
+            p: x.n.join(y.p),
+            n: x.p.cat(y.n),
         },
         Kind::Equivalent => Row {
-            p: xn.join(yp).cat(yn.join(xp)),
-            n: xn.join(yn).cat(xp.join(yp)),
+            p: x.n.join(y.p).cat(y.n.join(x.p)),
+            n: x.n.join(y.n).cat(x.p.join(y.p)),
         },
-        Kind::Unknown => Row {
-            p: Total::none(),
-            n: Total::none(),
-        },
+        Kind::Unknown => Row::NONE,
     }
 }
 
-// The row of node `i`.
-pub fn row_at(clauses: &[[u16; 1024]; 2], literals: &[[u32; 1024]; 2], i: usize) -> Row
-    requires { i < most_nodes }
-    ensures { result ≡ as_row (row_in clauses.now literals.now i) }
-{
-    let p = Total {
-        clauses: ClauseTotal { n: clauses[0][i] },
-        literals: LiteralTotal { n: literals[0][i] },
-    };
-    let n = Total {
-        clauses: ClauseTotal { n: clauses[1][i] },
-        literals: LiteralTotal { n: literals[1][i] },
-    };
-    Row { p, n }
-}
+impl Columns {
+    // Columns of zeros, before any row is filled in.
+    pub fn blank() -> Columns
+        ensures { result ≡ blank }
+    {
+        Columns {
+            clauses: [[0; MOST_NODES]; 2],
+            literals: [[0; MOST_NODES]; 2],
+        }
+    }
 
-// The node `at` as a child of node `i`: a renamed node is seen as its helper.
-fn child(
-    set: &[u8],
-    clauses: &[[u16; 1024]; 2],
-    literals: &[[u32; 1024]; 2],
-    i: usize,
-    at: usize,
-) -> Row
-    requires { i < most_nodes }
-    ensures { result ≡ as_row (child_in set.now clauses.now literals.now i at) }
-{
-    if is_renamed(set, at) {
-        return Row {
-            p: Total::unit(),
-            n: Total::unit(),
+    // The row of node `i`.
+    pub fn row_at(&self, i: usize) -> Row
+        requires { i < most_nodes }
+        ensures { result ≡ as_row (row_in self.now.clauses self.now.literals i) }
+    {
+        let p = Total {
+            clauses: ClauseTotal {
+                n: self.clauses[0][i],
+            },
+            literals: LiteralTotal {
+                n: self.literals[0][i],
+            },
         };
+        let n = Total {
+            clauses: ClauseTotal {
+                n: self.clauses[1][i],
+            },
+            literals: LiteralTotal {
+                n: self.literals[1][i],
+            },
+        };
+        Row { p, n }
     }
-    if at < i {
-        return row_at(clauses, literals, at);
-    }
-    Row {
-        p: Total::none(),
-        n: Total::none(),
-    }
-}
 
-// The row of node `i`, from the rows before it.
-fn row_next(
-    table: &[u8],
-    set: &[u8],
-    clauses: &[[u16; 1024]; 2],
-    literals: &[[u32; 1024]; 2],
-    i: usize,
-) -> Row
-    requires i_bound { i < node_count table.now }
-    requires i_lt_most_nodes { i < most_nodes }
-    ensures { result ≡ as_row (row_next (node_at table.now i) set.now clauses.now
-        literals.now i) }
-{
-    let node = node_at(table, i);
-    let x = child(set, clauses, literals, i, node.a);
-    let y = child(set, clauses, literals, i, node.b);
-    row_by(node, x, y)
-}
+    // The node `at` as a child of node `i`: a renamed node is seen as its helper.
+    fn child(&self, set: &[u8], i: usize, at: usize) -> Row
+        requires { i < most_nodes }
+        ensures { result ≡ as_row (child_in set.now self.now.clauses self.now.literals i at) }
+    {
+        if is_renamed(set, at) {
+            return Row::UNIT;
+        }
+        if at < i {
+            return self.row_at(at);
+        }
+        Row::NONE
+    }
 
-// Fills in the rows of the nodes from `from` on, under a set; those below stand.
-pub fn fill(
-    table: &[u8],
-    set: &[u8],
-    from: usize,
-    clauses: &mut [[u16; 1024]; 2],
-    literals: &mut [[u32; 1024]; 2],
-)
-    requires { Fillable table.now set.now from clauses.old literals.old }
-    ensures { Ready set.now (nodes_of table.now) (node_count table.now) clauses.new
-        literals.new }
-{
-    let count = table.len() / NODE_BYTES;
-    let mut i = from;
-    while i < count {
-        let row = row_next(table, set, clauses, literals, i);
-        clauses[0][i] = row.p.clauses.n;
-        clauses[1][i] = row.n.clauses.n;
-        literals[0][i] = row.p.literals.n;
-        literals[1][i] = row.n.literals.n;
-        i += 1;
+    // The row of node `i`, from the rows before it.
+    fn row_next(&self, table: &[u8], set: &[u8], i: usize) -> Row
+        requires i_bound { i < node_count table.now }
+        requires i_lt_most_nodes { i < most_nodes }
+        ensures { result ≡ as_row (row_next (node_at table.now i) set.now self.now.clauses
+            self.now.literals i) }
+    {
+        let node = node_at(table, i);
+        let x = self.child(set, i, node.a);
+        let y = self.child(set, i, node.b);
+        row_by(node, x, y)
+    }
+
+    // Fills in the rows of the nodes from `from` on, under a set; those below stand.
+    pub fn fill(&mut self, table: &[u8], set: &[u8], from: usize)
+        requires { Fillable table.now set.now from self.old.clauses self.old.literals }
+        ensures { Ready set.now (nodes_of table.now) (node_count table.now) self.new.clauses
+            self.new.literals }
+    {
+        for i in from..table.len() / NODE_BYTES {
+            let row = self.row_next(table, set, i);
+            self.clauses[0][i] = row.p.clauses.n;
+            self.clauses[1][i] = row.n.clauses.n;
+            self.literals[0][i] = row.p.literals.n;
+            self.literals[1][i] = row.n.literals.n;
+        }
     }
 }

@@ -10,10 +10,10 @@ ghost use Rattle.capped.specs.Inner.Sized.{sized, as_total};
 ghost use Rattle.totals.specs.Inner.Rowed.{rowed};
 ghost use Rattle.totals.specs.Inner.Sums.{with_part, with_definition, with_node, Summable};
 
-use crate::rows::{Row, row_at};
+use crate::rows::{Columns, Row};
 use capped::total::Total;
 use formula::node::NODE_BYTES;
-use marks::mark::{Mark, halves_of, read};
+use marks::mark::{Mark, Marks, halves_of, read};
 use marks::set::is_renamed;
 
 // A sum with one more part, where the definition has it.
@@ -31,50 +31,32 @@ fn with_definition(m: Mark, row: Row, sum: Total) -> Total
     ensures { result ≡ as_total (with_definition capped 0 m (rowed row) (sized sum)) }
 {
     let halves = halves_of(m);
-    let p = row.p;
-    let n = row.n;
-    let down = with_part(halves.down, Total::unit().join(p), sum);
-    with_part(halves.up, n.join(Total::unit()), down)
+    let down = with_part(halves.down, Total::UNIT.join(row.p), sum);
+    with_part(halves.up, row.n.join(Total::UNIT), down)
 }
 
 // A sum with what node `i` adds: its definition, where it is renamed.
-fn with_node(
-    marks: &[u8; 1024],
-    set: &[u8],
-    clauses: &[[u16; 1024]; 2],
-    literals: &[[u32; 1024]; 2],
-    i: usize,
-    sum: Total,
-) -> Total
+fn with_node(marks: &Marks, set: &[u8], columns: &Columns, i: usize, sum: Total) -> Total
     requires { i < most_nodes }
     ensures { result ≡ as_total (with_node capped (renamed set.now i) 0 (held_at marks.now i)
-        (row_in clauses.now literals.now i) (sized sum)) }
+        (row_in columns.now.clauses columns.now.literals i) (sized sum)) }
 {
     if !is_renamed(set, i) {
         return sum;
     }
-    with_definition(read(marks, i), row_at(clauses, literals, i), sum)
+    with_definition(read(marks, i), columns.row_at(i), sum)
 }
 
 // The totals of a table under a set, from its marks and the rows of its nodes; no node below `from` is renamed.
-pub fn whole(
-    table: &[u8],
-    marks: &[u8; 1024],
-    set: &[u8],
-    from: usize,
-    clauses: &[[u16; 1024]; 2],
-    literals: &[[u32; 1024]; 2],
-) -> Total
-    requires { Summable table.now marks.now set.now from clauses.now literals.now }
+pub fn whole(table: &[u8], marks: &Marks, set: &[u8], from: usize, columns: &Columns) -> Total
+    requires { Summable table.now marks.now set.now from columns.now.clauses columns.now.literals }
     ensures { result ≡ as_total (totals (renaming 0 set.now) (nodes_of table.now)) }
 {
     let count = table.len() / NODE_BYTES;
-    let root = row_at(clauses, literals, count - 1);
-    let mut sum = Total::none().cat(root.p);
-    let mut i = from;
-    while i < count {
-        sum = with_node(marks, set, clauses, literals, i, sum);
-        i += 1;
+    let root = columns.row_at(count - 1);
+    let mut sum = Total::NONE.cat(root.p);
+    for i in from..count {
+        sum = with_node(marks, set, columns, i, sum);
     }
     sum
 }

@@ -11,7 +11,7 @@ use lib.ListN.{length, get_or, set, replicate, length-set, length-replicate, get
 use lib.Seq.{get_or-set_same, get_or-set_other, ext_get_or}
 use borrow.Author.Tests.{eqb-true, eqb-false}
 use Rattle.formula.specs.Tables.{most_nodes}
-use Rattle.totals.specs.Inner.Columns.{cell, Shaped}
+use Rattle.totals.specs.Inner.Columns.{cell, zeros, Shaped}
 
 -- an entry is stored
 abbrev pub put : List (List ℕ) → ℕ → ℕ → ℕ → List (List ℕ)
@@ -78,9 +78,6 @@ module _ (l : List (List ℕ)) (shaped : Shaped l) (i x y : ℕ) where
       ∙ cell-node l shaped 0 i x (omega arith) sign j d
 
 -- an array of zeros
-abbrev pub zeros : List (List ℕ)
-zeros = replicate 2 (replicate most_nodes 0)
-
 pub zeros_shaped : Shaped zeros
 zeros_shaped = record {
   signs = length-replicate {A = List ℕ} 2 (replicate most_nodes 0);

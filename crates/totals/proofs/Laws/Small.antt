@@ -1,9 +1,9 @@
 -- A node whose P and N have at most one clause each is no node to rename: the clause total does not fall.
 -- Assumes nothing.
 use mathlib.Core.Path.{◌≡◌, refl, sym, ap, ◌∙◌, subst⁻¹}
-use mathlib.Core.Bool.{Bool, true, false, cond}
+use mathlib.Core.Bool.{Bool, true, false}
 use mathlib.Core.List.{List}
-use Prim.Native.Nat.{ℕ, zero, suc, ◌+◌, ◌*◌, ◌-◌, ◌<◌, ◌≤◌}
+use Prim.Native.Nat.{ℕ, zero, suc, ◌-◌, ◌<◌, ◌≤◌}
 use native.Mathlib.Decide.{dec_lt}
 use native.Mathlib.Nat.{mul-le-mul}
 use native.Mathlib.Numerals.{add-one}
@@ -12,13 +12,12 @@ use lib.Dec.{eqb}
 use lib.ListN.{length, set}
 use borrow.Author.Tests.{eqb-true, eqb-false}
 use Rattle.formula.specs.Inner.Right.{Below}
-use Rattle.marks.specs.Marks.{to_a, to_b, halves_of, mark_of}
+use Rattle.marks.specs.Marks.{halves_of, mark_of}
 use Rattle.formula.specs.Tables.{node_in}
-use Rattle.marks.specs.Paths.{has}
 use Rattle.marks.specs.Sets.{renamed}
 use Rattle.marks.specs.declared.mark.Mark.{Mark}
 use Rattle.formula.specs.declared.node.Node.{Node}
-use Rattle.clausal.specs.Clauses.{Row, unit_row, no_row, Renaming, under, helper_of, name_of, row_of}
+use Rattle.clausal.specs.Clauses.{Row, Renaming, under, name_of, row_of}
 use Rattle.clausal.specs.Output.{definitions}
 use Rattle.clausal.specs.Totals.{Size, capped, clause_ceiling, totals}
 use Rattle.clausal.proofs.Related.{Keeps, Under, both, under_by, under_none}

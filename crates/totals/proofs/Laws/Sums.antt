@@ -3,14 +3,14 @@
 use mathlib.Core.Path.{◌≡◌, refl, sym, ap, ◌∙◌}
 use mathlib.Core.Bool.{Bool, true, false, cond}
 use mathlib.Core.List.{List, [], ◌∷◌, ◌++◌}
-use Prim.Native.Nat.{ℕ, zero, suc, ◌+◌, ◌-◌, ◌<◌}
+use Prim.Native.Nat.{ℕ, zero, suc, ◌+◌, ◌-◌}
 use native.Mathlib.Numerals.{add-one}
 use native.Mathlib.Omega.{arith}
 use lib.ListN.{length}
 use Rattle.marks.specs.Marks.{mark_of, halves_of}
 use Rattle.marks.specs.Sets.{renamed}
 use Rattle.formula.specs.declared.node.Node.{Node}
-use Rattle.clausal.specs.Clauses.{Algebra, Row, Renaming, helper_of, name_of, row_of}
+use Rattle.clausal.specs.Clauses.{Algebra, Renaming, helper_of, name_of, row_of}
 use Rattle.clausal.specs.Output.{root_part, down_part, up_part, definition, definitions, gather}
 use Rattle.clausal.proofs.Options.{gather_append}
 use Rattle.totals.specs.Inner.Sums.{with_part, with_node, Low}

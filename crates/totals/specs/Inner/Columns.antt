@@ -1,11 +1,12 @@
 -- The rows of all nodes under a set, as two arrays hold them: clause totals and literal totals, each for P and for N.
 -- Assumes nothing: these are definitions.
-use Rattle.std.specs.Prelude.{cond, List, [], ◌⊎◌, ◌≡◌, ℕ, ◌<◌, ◌≤◌, ltb, length, get_or}
+use Rattle.std.specs.Prelude.{cond, List, [], ◌⊎◌, ◌≡◌, ℕ, ◌<◌, ◌≤◌, ltb, length, get_or, replicate}
 use Rattle.formula.specs.Tables.{most_nodes, most_table, node_count, nodes_of}
 use Rattle.marks.specs.Sets.{renamed}
 use Rattle.formula.specs.declared.node.Node.{Node}
 use Rattle.clausal.specs.Clauses.{Row, unit_row, no_row, row_by, renaming, name_of, row_of}
 use Rattle.clausal.specs.Totals.{Size, capped}
+use Rattle.totals.specs.declared.rows.Columns.{Columns}
 
 -- an entry: row 0 is for P, row 1 for N
 abbrev pub cell : List (List ℕ) → ℕ → ℕ → ℕ
@@ -15,6 +16,14 @@ cell l sign i = get_or (get_or l sign []) i 0
 pub record Shaped (l : List (List ℕ)) : Type 0 where
   pub signs : length l ≡ 2
   pub entries : (sign : ℕ) → sign < 2 → length (get_or l sign []) ≡ most_nodes
+
+-- both rows of an array, before anything is filled in
+abbrev pub zeros : List (List ℕ)
+zeros = replicate 2 (replicate most_nodes 0)
+
+-- the columns of which nothing is filled in
+abbrev pub blank : Columns
+blank = record { clauses = zeros; literals = zeros }
 
 -- node i of the arrays
 abbrev pub row_in : List (List ℕ) → List (List ℕ) → ℕ → Row Size

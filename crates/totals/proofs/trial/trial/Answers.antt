@@ -28,7 +28,7 @@ returns c =
     let s = set a.set.now a.i a.byte in
     record {
       in_set = refl;
-      total = ap (λ (x : Total). x.clauses.n) c.whole-sum.ensures;
-      ready = subst (λ (k : ℕ). Ready s (nodes_of t) k c.fill.new.clauses c.fill.new.literals)
+      total = ap (λ (x : Total). x.clauses.n) c.whole.ensures;
+      ready = subst (λ (k : ℕ). Ready s (nodes_of t) k c.fill.new.self.clauses c.fill.new.self.literals)
           (sym (length-nodes_of t)) c.fill.ensures;
     }

