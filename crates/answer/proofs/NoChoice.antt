@@ -7,8 +7,8 @@ use denote.Triple.Clauses.{AtExit}
 use borrow.Fn.Kinds.{Dens, ended_of, res_t}
 use Rattle.answer.proofs.tell.Kinds as tell-kinds
 use Rattle.answer.proofs.tell.Reads as tell
-use Rattle.answer.proofs.is_refusal.Kinds as is-refusal-kinds
-use Rattle.answer.proofs.is_refusal.Reads as is-refusal
+use Rattle.answer.proofs.Fault.number.Kinds as number-kinds
+use Rattle.answer.proofs.Fault.number.Reads as number
 use Rattle.answer.proofs.shown.Kinds as shown-kinds
 use Rattle.answer.proofs.shown.Reads as shown
 use Rattle.answer.proofs.put.Kinds as put-kinds
@@ -23,10 +23,10 @@ pub tell-settled : (κs : Lfts 0) (a : Dens κs tell-kinds.ps) (r q : (res_t tel
     → tell.Post κs a r s → tell.Post κs a q t → r ≡ q
 tell-settled κs a r q s t e f = e ∙ sym f
 
-pub is-refusal-settled : (κs : Lfts 0) (a : Dens κs is-refusal-kinds.ps) (r q : (res_t is-refusal-kinds.r κs).Denot)
-    (s t : AtExit (ended_of 0 is-refusal-kinds.ps is-refusal-kinds.r) κs)
-    → is-refusal.Post κs a r s → is-refusal.Post κs a q t → r ≡ q
-is-refusal-settled κs a r q s t e f = e ∙ sym f
+pub number-settled : (κs : Lfts 0) (a : Dens κs number-kinds.ps) (r q : (res_t number-kinds.r κs).Denot)
+    (s t : AtExit (ended_of 0 number-kinds.ps number-kinds.r) κs)
+    → number.Post κs a r s → number.Post κs a q t → r ≡ q
+number-settled κs a r q s t e f = e ∙ sym f
 
 pub shown-settled : (κs : Lfts 0) (a : Dens κs shown-kinds.ps) (r q : (res_t shown-kinds.r κs).Denot)
     (s t : AtExit (ended_of 0 shown-kinds.ps shown-kinds.r) κs)

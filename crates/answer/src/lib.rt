@@ -4,19 +4,37 @@
 ghost use Rattle.std.specs.Prelude.{not, ◌≡◌, ◌+◌, ◌≤◌, eqb, length};
 ghost use Rattle.laws.specs.Lists.{splice};
 ghost use Rattle.laws.specs.Numbers.{cap, little};
-ghost use Rattle.answer.specs.Answers.{refused, told_of, refuses, most_shown};
+ghost use Rattle.answer.specs.Answers.{number_of_fault, refused, refusal_told, told_of, most_shown};
 ghost use Rattle.answer.specs.Inner.Given.{Given};
 
+// What a call that is not refused reports. The two numbers are variables or picks, and clauses or total; of a bare check both are 0.
 #[derive(Clone, Copy)]
-pub enum Answer {
-    // No refusal. The two numbers are variables or picks, and clauses or total; of a bare check both are 0.
-    Accepted { first: u32, second: u32 },
+pub struct Accepted {
+    pub first: u32,
+    pub second: u32,
+}
+
+// What is wrong with a record, in the order in which it is looked for.
+#[derive(Clone, Copy, PartialEq, Eq)]
+pub enum Fault {
+    UnknownKind,
+    // A field that its kind does not use is not zero.
+    UnusedNotZero,
+    // A child is not below its node.
+    ChildNotBelow,
+    // A symbol is not one of 1 to V.
+    SymbolOutside,
+}
+
+// Why a call is refused.
+#[derive(Clone, Copy)]
+pub enum Refusal {
     // The table is empty, not a multiple of the node size, or too long.
     TableLength,
     // The option count is over its limit.
     Options,
-    // A record breaks the rule of its kind: the number that the rule gives, and the lowest such node.
-    Record { number: u32, node: u32 },
+    // A record breaks the rule of its kind: how, and the lowest such node.
+    Record { fault: Fault, node: u32 },
     // The set has a wrong length (the node count), or a wrong byte (the lowest such node).
     Set { node: u32 },
     // Too many clauses.
@@ -43,6 +61,9 @@ pub enum Answer {
     Nodes,
 }
 
+// What a call answers.
+pub type Answer = Result<Accepted, Refusal>;
+
 // The four numbers of an answer.
 #[derive(Clone, Copy)]
 pub struct Told {
@@ -52,8 +73,22 @@ pub struct Told {
     pub second: u32,
 }
 
+impl Fault {
+    // The number of the refusal that a record with this fault earns.
+    pub fn number(self) -> u32
+        ensures { result ≡ number_of_fault self }
+    {
+        match self {
+            Fault::UnknownKind => 3,
+            Fault::UnusedNotZero => 12,
+            Fault::ChildNotBelow => 13,
+            Fault::SymbolOutside => 14,
+        }
+    }
+}
+
 // A refusal reports zero for all but its number and its place.
-fn refusal(number: u32, place: usize) -> Told
+fn refused(number: u32, place: usize) -> Told
     ensures { result ≡ refused number place }
 {
     Told {
@@ -64,52 +99,49 @@ fn refusal(number: u32, place: usize) -> Told
     }
 }
 
-// The four numbers of an answer, by the table of refusals.
+// The four numbers of a refusal, by the table of refusals.
+fn tell_refusal(refusal: Refusal) -> Told
+    ensures { result ≡ refusal_told refusal }
+{
+    match refusal {
+        Refusal::TableLength => refused(1, 0),
+        Refusal::Options => refused(2, 0),
+        Refusal::Record { fault, node } => refused(fault.number(), node as usize),
+        Refusal::Set { node } => refused(4, node as usize),
+        Refusal::Clauses => refused(5, 0),
+        Refusal::Literals => refused(6, 0),
+        Refusal::Room => refused(7, 0),
+        Refusal::Text { place } => refused(8, shown(place) as usize),
+        Refusal::ClauseBytes => refused(9, 0),
+        Refusal::Line { line } => refused(10, line as usize),
+        Refusal::AnswerPart => refused(11, 0),
+        Refusal::NoClause { clause } => refused(15, clause as usize),
+        Refusal::Names => refused(16, 0),
+        Refusal::SatText { place } => refused(17, shown(place) as usize),
+        Refusal::Nodes => refused(18, 0),
+    }
+}
+
+// The four numbers of an answer.
 pub fn tell(answer: Answer) -> Told
     ensures { result ≡ told_of answer }
 {
     match answer {
-        Answer::Accepted { first, second } => Told {
+        Ok(accepted) => Told {
             number: 0,
             place: 0,
-            first,
-            second,
+            first: accepted.first,
+            second: accepted.second,
         },
-        Answer::TableLength => refusal(1, 0),
-        Answer::Options => refusal(2, 0),
-        Answer::Record { number, node } => refusal(number, node as usize),
-        Answer::Set { node } => refusal(4, node as usize),
-        Answer::Clauses => refusal(5, 0),
-        Answer::Literals => refusal(6, 0),
-        Answer::Room => refusal(7, 0),
-        Answer::Text { place } => refusal(8, shown(place) as usize),
-        Answer::ClauseBytes => refusal(9, 0),
-        Answer::Line { line } => refusal(10, line as usize),
-        Answer::AnswerPart => refusal(11, 0),
-        Answer::NoClause { clause } => refusal(15, clause as usize),
-        Answer::Names => refusal(16, 0),
-        Answer::SatText { place } => refusal(17, shown(place) as usize),
-        Answer::Nodes => refusal(18, 0),
+        Err(refusal) => tell_refusal(refusal),
     }
-}
-
-// Whether an answer is a refusal.
-pub fn is_refusal(answer: Answer) -> bool
-    ensures { result ≡ refuses answer }
-{
-    let told = tell(answer);
-    told.number != 0
 }
 
 // A place as it is shown: one that is too large for 32 bits shows as the largest number.
 pub fn shown(place: usize) -> u32
     ensures { result ≡ cap most_shown place }
 {
-    if place < 4_294_967_295 {
-        place as u32
-    } else {
-        4_294_967_295
-    }
+    u32::try_from(place).unwrap_or(u32::MAX)
 }
 
 // Stores a number in four bytes, the lowest first.
@@ -117,13 +149,7 @@ pub fn put(out: &mut [u8], at: usize, number: u32)
     requires { at + 4 ≤ length out.old }
     ensures { out.new ≡ splice out.old at (little 4 number) }
 {
-    let second = number / 256;
-    let third = second / 256;
-    let fourth = third / 256;
-    out[at] = (number % 256) as u8;
-    out[at + 1] = (second % 256) as u8;
-    out[at + 2] = (third % 256) as u8;
-    out[at + 3] = (fourth % 256) as u8;
+    out[at..at + 4].copy_from_slice(&number.to_le_bytes());
 }
 
 // Whether a host's answer part has a wrong length: refusal 11.

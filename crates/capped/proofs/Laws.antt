@@ -1,2 +1,3 @@
 -- Laws of totals at their ceilings.
+pub mod Constants
 pub mod Stated

@@ -8,17 +8,14 @@ ghost use Rattle.capped.specs.Inner.Sized.{sized, as_total, stated_as};
 fn product(a: u32, b: u32) -> u64
     ensures { result ≡ a * b }
 {
-    a as u64 * b as u64
+    u64::from(a) * u64::from(b)
 }
 
 // A number read at a ceiling.
 fn capped_at(ceiling: u32, number: u64) -> u32
     ensures { result ≡ cap ceiling number }
 {
-    if number < ceiling as u64 {
-        return number as u32;
-    }
-    ceiling
+    number.min(u64::from(ceiling)) as u32
 }
 
 // A clause total.
@@ -30,33 +27,31 @@ pub struct ClauseTotal {
 impl ClauseTotal {
     pub const CEILING: u16 = 65_535;
 
-    pub fn zero() -> Self
-        ensures { result.n ≡ 0 }
-    {
-        Self { n: 0 }
-    }
+    pub const ZERO: Self = Self { n: 0 };
 
-    fn one() -> Self
-        ensures { result.n ≡ 1 }
+    const ONE: Self = Self { n: 1 };
+
+    // A number of clauses, read at the ceiling.
+    fn read(number: u64) -> Self
+        ensures { result.n ≡ cap clause_ceiling number }
     {
-        Self { n: 1 }
+        Self {
+            n: capped_at(u32::from(Self::CEILING), number) as u16,
+        }
     }
 
     // One list followed by another.
     pub fn add(self, other: Self) -> Self
         ensures { result.n ≡ cap clause_ceiling (self.n + other.n) }
     {
-        let sum = capped_at(Self::CEILING as u32, self.n as u64 + other.n as u64);
-        Self { n: sum as u16 }
+        Self::read(u64::from(self.n) + u64::from(other.n))
     }
 
     // The join of two lists.
     pub fn join(self, other: Self) -> Self
         ensures { result.n ≡ cap clause_ceiling (self.n * other.n) }
     {
-        let joined = product(self.n as u32, other.n as u32);
-        let sum = capped_at(Self::CEILING as u32, joined);
-        Self { n: sum as u16 }
+        Self::read(product(u32::from(self.n), u32::from(other.n)))
     }
 }
 
@@ -69,34 +64,34 @@ pub struct LiteralTotal {
 impl LiteralTotal {
     pub const CEILING: u32 = 1_000_000;
 
-    pub fn zero() -> Self
-        ensures { result.n ≡ 0 }
-    {
-        Self { n: 0 }
-    }
+    pub const ZERO: Self = Self { n: 0 };
 
-    fn one() -> Self
-        ensures { result.n ≡ 1 }
+    const ONE: Self = Self { n: 1 };
+
+    // What is shown where the total is not stated.
+    const FULL: Self = Self { n: Self::CEILING };
+
+    // A number of literals, read at the ceiling.
+    fn read(number: u64) -> Self
+        ensures { result.n ≡ cap literal_ceiling number }
     {
-        Self { n: 1 }
+        Self {
+            n: capped_at(Self::CEILING, number),
+        }
     }
 
     // One list followed by another.
     pub fn add(self, other: Self) -> Self
         ensures { result.n ≡ cap literal_ceiling (self.n + other.n) }
     {
-        Self {
-            n: capped_at(Self::CEILING, self.n as u64 + other.n as u64),
-        }
+        Self::read(u64::from(self.n) + u64::from(other.n))
     }
 
     // These literals, repeated for each of a number of clauses.
     fn times(self, clauses: ClauseTotal) -> Self
         ensures { result.n ≡ cap literal_ceiling (self.n * clauses.n) }
     {
-        Self {
-            n: capped_at(Self::CEILING, product(self.n, clauses.n as u32)),
-        }
+        Self::read(product(self.n, u32::from(clauses.n)))
     }
 
     // The join of two lists: each side's literals are repeated for each clause of the other.
@@ -123,50 +118,37 @@ fn stated(clauses: ClauseTotal, literals: LiteralTotal) -> Total
     }
     Total {
         clauses,
-        literals: LiteralTotal {
-            n: LiteralTotal::CEILING,
-        },
+        literals: LiteralTotal::FULL,
     }
 }
 
 impl Total {
     // No clause.
-    pub fn none() -> Self
-        ensures { result ≡ as_total capped.none }
-    {
-        Self {
-            clauses: ClauseTotal::zero(),
-            literals: LiteralTotal::zero(),
-        }
-    }
+    pub const NONE: Self = Self {
+        clauses: ClauseTotal::ZERO,
+        literals: LiteralTotal::ZERO,
+    };
 
     // One empty clause.
-    pub fn empty() -> Self
-        ensures { result ≡ as_total capped.empty }
-    {
-        Self {
-            clauses: ClauseTotal::one(),
-            literals: LiteralTotal::zero(),
-        }
-    }
+    pub const EMPTY: Self = Self {
+        clauses: ClauseTotal::ONE,
+        literals: LiteralTotal::ZERO,
+    };
 
     // One clause of one literal.
-    pub fn unit() -> Self
-        ensures { result ≡ record { clauses = record { n = 1 }; literals = record { n = 1 } } }
-    {
-        Self {
-            clauses: ClauseTotal::one(),
-            literals: LiteralTotal::one(),
-        }
-    }
+    pub const UNIT: Self = Self {
+        clauses: ClauseTotal::ONE,
+        literals: LiteralTotal::ONE,
+    };
 
     // One list followed by another.
     pub fn cat(self, other: Self) -> Self
         ensures { result ≡ as_total (capped.cat (sized self) (sized other)) }
     {
-        let clauses = self.clauses.add(other.clauses);
-        let literals = self.literals.add(other.literals);
-        stated(clauses, literals)
+        stated(
+            self.clauses.add(other.clauses),
+            self.literals.add(other.literals),
+        )
     }
 
     // The join of two lists.
@@ -175,7 +157,9 @@ impl Total {
     {
         let own = self.clauses;
         let others = other.clauses;
-        let literals = self.literals.join(own, other.literals, others);
-        stated(own.join(others), literals)
+        stated(
+            own.join(others),
+            self.literals.join(own, other.literals, others),
+        )
     }
 }

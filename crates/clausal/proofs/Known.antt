@@ -7,7 +7,7 @@ use Prim.Native.Nat.{ℕ, ◌<◌}
 use native.Mathlib.Decide.{dec_lt}
 use native.Mathlib.Omega.{arith}
 use lib.ListN.{get_or-eq_default}
-use Rattle.answer.specs.declared.Answer.TheVariants.{Accepted}
+use Rattle.answer.specs.Answers.{accepted_with}
 use Rattle.formula.specs.Checks.{checked}
 use Rattle.formula.specs.Tables.{node_at, node_count, nodes_of, node_in, known}
 use Rattle.formula.proofs.Laws.Faults.{keeps_of_no_fault}
@@ -15,7 +15,7 @@ use Rattle.formula.proofs.Laws.Tables.{length-nodes_of, node_in-nodes_of}
 use Rattle.formula.proofs.Laws.WellFormed.{accepts}
 use Rattle.formula.specs.declared.node.Node.{Node}
 
-pub accepted-known : (t : List ℕ) (v x y : ℕ) → checked t v ≡ Accepted x y
+pub accepted-known : (t : List ℕ) (v x y : ℕ) → checked t v ≡ accepted_with x y
     → (i : ℕ) → known (node_in (nodes_of t) i).kind ≡ true
 accepted-known t v x y e i = go (dec_lt i (node_count t))
   where

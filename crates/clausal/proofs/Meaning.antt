@@ -3,13 +3,13 @@
 -- polarities, and with equality and both signs.
 -- Assumes nothing.
 use mathlib.Core.Path.{◌≡◌, refl, ap, ◌∙◌, subst, subst⁻¹}
-use mathlib.Core.Bool.{Bool, true, false, cond, not, ◌&&◌, ◌||◌, beq}
+use mathlib.Core.Bool.{Bool, true, false, not, ◌&&◌, ◌||◌, beq}
 use mathlib.Core.List.{List}
 use Prim.Native.Nat.{ℕ, zero, suc, ◌-◌, ◌≤◌, ◌<◌}
 use native.Mathlib.Omega.{arith}
 use lib.Dec.{T}
 use lib.ListN.{length}
-use Rattle.answer.specs.declared.Answer.TheVariants.{Accepted}
+use Rattle.answer.specs.Answers.{accepted_with}
 use Rattle.formula.specs.Checks.{checked}
 use Rattle.marks.specs.Sets.{renamed}
 use Rattle.marks.specs.Marks.{to_a, to_b, mark_of}
@@ -191,7 +191,7 @@ module _ (ns : List Node) (u : Renaming) (ρ : ℕ → Bool)
     }))
 
 -- for every accepted table, every renaming and every row of truth values
-module _ (t : List ℕ) (v : ℕ) (accepted : checked t v ≡ Accepted 0 0) (u : Renaming) (ρ : ℕ → Bool) where
+module _ (t : List ℕ) (v : ℕ) (accepted : checked t v ≡ accepted_with 0 0) (u : Renaming) (ρ : ℕ → Bool) where
   -- a row that satisfies the clauses satisfies the formula
   pub sound : T (satisfies ρ (output_of u (nodes_of t))) → T (formula_true ρ (nodes_of t))
   sound = sound-nodes (nodes_of t) u ρ v (accepted_well_formed t v 0 0 accepted) (accepted-known t v 0 0 accepted)

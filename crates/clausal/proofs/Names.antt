@@ -11,8 +11,10 @@ use native.Mathlib.Omega.{arith}
 use lib.Dec.{eqb}
 use lib.ListN.{length, get_or-eq_default}
 use borrow.Author.Tests.{eqb-true}
-use Rattle.answer.specs.declared.Answer.{Answer}
-use Rattle.answer.specs.declared.Answer.TheVariants.{Accepted, Set}
+use Rattle.answer.specs.Answers.{Answer}
+use Rattle.answer.specs.Answers.{accepted_with}
+use Rattle.std.specs.Prelude.{Err}
+use Rattle.answer.specs.declared.Refusal.TheVariants.{Set}
 use Rattle.laws.specs.Lists.{Every, none, more}
 use Rattle.laws.proofs.Every.{every_append}
 use Rattle.formula.specs.Checks.{checked}
@@ -56,10 +58,10 @@ module _ (u : Renaming) (ns : List Node) where
   output-named = related_whole clauses nothing (λ cs x. Named u ns cs) u ns named_keeps
 
 -- a right set is as long as the table
-length-right : (ns : List Node) (s : List ℕ) (x y : ℕ) → set_checked ns s ≡ Accepted x y → length s ≡ length ns
+length-right : (ns : List Node) (s : List ℕ) (x y : ℕ) → set_checked ns s ≡ accepted_with x y → length s ≡ length ns
 length-right ns s x y = go (eqb (length s) (length ns)) refl _
   where
-    go : (b : Bool) → eqb (length s) (length ns) ≡ b → (rest : Answer) → cond b rest (Set (length ns)) ≡ Accepted x y
+    go : (b : Bool) → eqb (length s) (length ns) ≡ b → (rest : Answer) → cond b rest (Err (Set (length ns))) ≡ accepted_with x y
         → length s ≡ length ns
     go true e rest a = eqb-true (length s) (length ns) e
     go false e rest a = let z : ◌≡◌ {A = ℕ} 0 1 = cc in absurd (omega arith)
@@ -86,22 +88,22 @@ pub helper_earlier : (u w : Renaming) (n i j : ℕ) → renamed u.set i ≡ true
 helper_earlier u w n i j e h later = omega (arith, helper-most u i n e h, helper_above w j)
 
 -- an accepted table: an option is a symbol that the table holds, from 1 to V
-pub option_range : (t : List ℕ) (v : ℕ) → checked t v ≡ Accepted 0 0 → (i : ℕ) → (node_in (nodes_of t) i).kind ≡ Symbol
+pub option_range : (t : List ℕ) (v : ℕ) → checked t v ≡ accepted_with 0 0 → (i : ℕ) → (node_in (nodes_of t) i).kind ≡ Symbol
     → (i < length (nodes_of t)) × (0 < (node_in (nodes_of t) i).a) × ((node_in (nodes_of t) i).a ≤ v)
 option_range t v accepted i e =
     let w = (accepted_well_formed t v 0 0 accepted).symbols i e in
     (symbol-inside (nodes_of t) i e, w.0, w.1)
 
 -- a right set: a helper is that of a node of the table, after all that is taken, and no more than the variables reported
-pub helper_range : (ns : List Node) (u : Renaming) → set_checked ns u.set ≡ Accepted 0 0 → (i : ℕ) → renamed u.set i ≡ true
+pub helper_range : (ns : List Node) (u : Renaming) → set_checked ns u.set ≡ accepted_with 0 0 → (i : ℕ) → renamed u.set i ≡ true
     → (i < length ns) × (u.taken < helper_of u i) × (helper_of u i ≤ variables_of u (length ns))
 helper_range ns u right i e =
     let h : i < length ns = omega (arith, renamed-inside u.set i e, length-right ns u.set 0 0 right) in
     (h, helper_above u i, helper-most u i (length ns) e h)
 
 -- every variable, where all options are taken
-module _ (t : List ℕ) (v : ℕ) (u : Renaming) (accepted : checked t v ≡ Accepted 0 0)
-    (right : set_checked (nodes_of t) u.set ≡ Accepted 0 0) (all : v ≤ u.taken) where
+module _ (t : List ℕ) (v : ℕ) (u : Renaming) (accepted : checked t v ≡ accepted_with 0 0)
+    (right : set_checked (nodes_of t) u.set ≡ accepted_with 0 0) (all : v ≤ u.taken) where
   pub variable_range : (x : ℕ) → Origin u (nodes_of t) x → (0 < x) × (x ≤ variables_of u (length (nodes_of t)))
   variable_range x (option i e) = let r = option_range t v accepted i e in (r.1, omega (arith, r.2))
   variable_range x (helper i e) = let r = helper_range (nodes_of t) u right i e in (omega (arith, r.1), r.2)

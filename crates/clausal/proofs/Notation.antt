@@ -1,7 +1,7 @@
 -- How the tables of examples are written and tested.
 -- Assumes nothing: these are definitions.
 use mathlib.Core.Bool.{Bool, true, false, ◌&&◌, beq}
-use mathlib.Core.List.{List, [], ◌∷◌, ◌++◌}
+use mathlib.Core.List.{List, [], ◌∷◌}
 use Prim.Native.Nat.{ℕ}
 use lib.Dec.{eqb}
 use lib.ListN.{length, take, replicate}
@@ -13,7 +13,7 @@ use Rattle.clausal.specs.Choosing.{choose}
 use Rattle.clausal.specs.Totals.{Size, size_of, true_totals, totals}
 use Rattle.clausal.specs.Clauses.{variables_of, renaming, Literal, Clause, clauses_bytes}
 use Rattle.clausal.specs.Output.{output_of}
-use Rattle.answer.specs.declared.Answer.{Answer}
+use Rattle.answer.specs.Answers.{Answer}
 use Rattle.formula.specs.declared.node.Node.{Node}
 
 abbrev pub false-node : List ℕ

@@ -1,7 +1,7 @@
 -- The rows of the nodes up to i depend only on the names of the nodes below i: what a trial of node i may use again.
 -- Assumes nothing.
 use mathlib.Core.Path.{◌≡◌, refl, sym, ap, ◌∙◌}
-use mathlib.Core.Bool.{Bool, cond}
+use mathlib.Core.Bool.{cond}
 use mathlib.Core.List.{List, [], ◌∷◌, ◌++◌}
 use Prim.Native.Nat.{ℕ, zero, suc, ◌+◌, ◌≤◌, ◌<◌}
 use native.Mathlib.Decide.{dec_lt}
@@ -12,7 +12,7 @@ use Rattle.laws.specs.Lists.{grow, up_to}
 use Rattle.formula.specs.Inner.Right.{Below}
 use Rattle.formula.specs.Tables.{node_in}
 use Rattle.marks.specs.Sets.{renamed}
-use Rattle.clausal.specs.Clauses.{Algebra, Row, unit_row, no_row, Renaming, renamed_below, name_of, under, row_from, row_of}
+use Rattle.clausal.specs.Clauses.{Algebra, Row, unit_row, no_row, Renaming, name_of, under, row_from, row_of}
 use Rattle.clausal.proofs.Renamed.{below-same, renamed-set-other}
 use Rattle.clausal.proofs.Rows.{rule_same, row-past, get_d_rows}
 use Rattle.formula.specs.declared.node.Node.{Node}

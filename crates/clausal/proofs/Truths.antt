@@ -11,7 +11,7 @@ use lib.ListN.{length, get_or}
 use lib.Seq.{get_or-take}
 use Rattle.laws.specs.Lists.{up_to}
 use Rattle.laws.proofs.Upward.{Each, each_at, each-up_to, take-up_to, get_d_up_to}
-use Rattle.answer.specs.declared.Answer.TheVariants.{Accepted}
+use Rattle.answer.specs.Answers.{accepted_with}
 use Rattle.formula.specs.Checks.{checked}
 use Rattle.formula.proofs.Laws.WellFormed.{accepted_well_formed}
 use Rattle.formula.specs.Tables.{nodes_of, node_in, known}
@@ -131,7 +131,7 @@ module _ (ρ τ : ℕ → Bool) where
           same_by n.kind n.a (s j) (each_at ◌≡◌ false false refl e n.a) (each_at ◌≡◌ false false refl e n.b)
 
 -- so a row of the options 1 to V alone is enough for an accepted table
-pub truth_options : (t : List ℕ) (v : ℕ) → checked t v ≡ Accepted 0 0 → (ρ τ : ℕ → Bool)
+pub truth_options : (t : List ℕ) (v : ℕ) → checked t v ≡ accepted_with 0 0 → (ρ τ : ℕ → Bool)
     → ((x : ℕ) → 0 < x → x ≤ v → ρ x ≡ τ x) → (i : ℕ) → truth_of ρ (nodes_of t) i ≡ truth_of τ (nodes_of t) i
 truth_options t v accepted ρ τ same i =
     truth_same ρ τ (nodes_of t) (λ j e. let r = (accepted_well_formed t v 0 0 accepted).symbols j e in same (node_in (nodes_of t) j).a r.0

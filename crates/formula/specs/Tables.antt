@@ -1,8 +1,11 @@
 -- R2: the formula table: its sizes and limits, stated here and nowhere else, its nodes, and the rule of a record.
 -- Assumes nothing: these are definitions.
-use Rattle.std.specs.Prelude.{ℕ, ◌+◌, ◌*◌, ◌/◌, List, [], ◌∷◌, ◌++◌, length, get_or, Bool, true, false, cond, not, ◌||◌, eqb, leb, ltb}
+use Rattle.std.specs.Prelude.{ℕ, ◌+◌, ◌*◌, ◌/◌, List, [], ◌∷◌, ◌++◌, length, get_or, Bool, true, false, cond, not, ◌||◌, eqb, leb, ltb, Option, Some, None}
 use Rattle.laws.specs.Lists.{up_to}
 use Rattle.laws.specs.Numbers.{little, little_at}
+use Rattle.answer.specs.Answers.{number_of_fault}
+use Rattle.answer.specs.declared.Fault.{Fault}
+use Rattle.answer.specs.declared.Fault.TheVariants.{UnknownKind, UnusedNotZero, ChildNotBelow, SymbolOutside}
 use Rattle.formula.specs.declared.node.Kind.{Kind}
 use Rattle.formula.specs.declared.node.Kind.TheVariants.{False, True, Symbol, Not, And, Or, Implies, Equivalent, Unknown}
 use Rattle.formula.specs.declared.node.Node.{Node}
@@ -101,36 +104,48 @@ field_right v i held.Symbol x = cond (eqb x 0) false (leb x v)
 
 -- R10.12, R10.20 to R10.22: the numbers of the faults of a record, in the order in which they are looked at
 abbrev pub unknown_kind : ℕ
-unknown_kind = 3
+unknown_kind = number_of_fault UnknownKind
 
 abbrev pub unused_not_zero : ℕ
-unused_not_zero = 12
+unused_not_zero = number_of_fault UnusedNotZero
 
 abbrev pub child_not_below : ℕ
-child_not_below = 13
+child_not_below = number_of_fault ChildNotBelow
 
 abbrev pub symbol_outside : ℕ
-symbol_outside = 14
+symbol_outside = number_of_fault SymbolOutside
 
--- the fault of a field that is not right, by what it holds
+-- the fault of a field that is not right, by what it holds, and its number
+abbrev pub fault_in : Use → Fault
+fault_in held.Unused = UnusedNotZero
+fault_in held.Child = ChildNotBelow
+fault_in held.Symbol = SymbolOutside
+
 abbrev pub fault_number : Use → ℕ
-fault_number held.Unused = unused_not_zero
-fault_number held.Child = child_not_below
-fault_number held.Symbol = symbol_outside
+fault_number u = number_of_fault (fault_in u)
 
--- the fault of a field of node i, 0 for none
-abbrev pub field_fault : ℕ → ℕ → Use → ℕ → ℕ
-field_fault v i u x = cond (field_right v i u x) 0 (fault_number u)
+-- the fault of a field of node i, where it is not right
+abbrev pub field_fault : ℕ → ℕ → Use → ℕ → Option Fault
+field_fault v i u x = cond (field_right v i u x) None (Some (fault_in u))
 
--- R10.23: of the faults of a kind, known or not, and of two fields the one that is looked at first, 0 for none
-abbrev pub first_fault : Bool → ℕ → ℕ → ℕ
+-- the number of a fault, 0 for none
+abbrev pub fault_told : Option Fault → ℕ
+fault_told None = 0
+fault_told (Some fault) = number_of_fault fault
+
+-- R10.23: of the faults of a kind, known or not, and of two fields the one that is looked at first
+abbrev pub first_fault : Bool → Option Fault → Option Fault → Option Fault
 first_fault known a b =
-    cond (not known) unknown_kind
-    (cond (eqb a unused_not_zero || eqb b unused_not_zero) unused_not_zero
-    (cond (eqb a child_not_below || eqb b child_not_below) child_not_below
-    (cond (eqb a symbol_outside || eqb b symbol_outside) symbol_outside 0)))
+    cond (not known) (Some UnknownKind)
+    (cond (eqb (fault_told a) unused_not_zero || eqb (fault_told b) unused_not_zero) (Some UnusedNotZero)
+    (cond (eqb (fault_told a) child_not_below || eqb (fault_told b) child_not_below) (Some ChildNotBelow)
+    (cond (eqb (fault_told a) symbol_outside || eqb (fault_told b) symbol_outside) (Some SymbolOutside) None)))
+
+-- what is wrong with node i
+abbrev pub fault_found : ℕ → ℕ → Node → Option Fault
+fault_found v i n =
+    first_fault (known n.kind) (field_fault v i (use_of_a n.kind) n.a) (field_fault v i (use_of_b n.kind) n.b)
 
 -- the number of the refusal that node i earns, 0 for none
 abbrev pub fault_of : ℕ → ℕ → Node → ℕ
-fault_of v i n =
-    first_fault (known n.kind) (field_fault v i (use_of_a n.kind) n.a) (field_fault v i (use_of_b n.kind) n.b)
+fault_of v i n = fault_told (fault_found v i n)

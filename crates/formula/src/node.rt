@@ -2,8 +2,11 @@
 ghost use Rattle.std.specs.Prelude.{◌||◌, ◌≡◌, ◌+◌, ◌<◌, ◌≤◌, eqb, length};
 ghost use Rattle.laws.specs.Lists.{splice};
 ghost use Rattle.laws.specs.Numbers.{little, little_at};
+ghost use Rattle.answer.specs.Answers.{number_of_fault};
 ghost use Rattle.formula.specs.Tables.{field_bytes, node_bytes, kind_of, node_at, node_count, node_record, known, use_of_a, use_of_b};
-ghost use Rattle.formula.specs.Tables.{field_right, fault_number, field_fault, first_fault, fault_of};
+ghost use Rattle.formula.specs.Tables.{field_right, fault_in, fault_told, field_fault, first_fault, fault_found};
+
+use answer::Fault;
 
 // Bytes of a field, and of a node: its kind and two fields.
 pub const FIELD_BYTES: usize = 2;
@@ -15,15 +18,6 @@ pub const MOST_NODES: usize = 1024;
 pub const MOST_TABLE: usize = NODE_BYTES * MOST_NODES;
 
 pub const MOST_OPTIONS: u32 = 32_000;
-// The faults of a record, by their refusal numbers: an unknown kind, an unused field that is not zero, a child that is not below its
-// node, and a symbol outside 1 to V.
-const UNKNOWN_KIND: u32 = 3;
-
-const UNUSED_NOT_ZERO: u32 = 12;
-
-const CHILD_NOT_BELOW: u32 = 13;
-
-const SYMBOL_OUTSIDE: u32 = 14;
 
 #[derive(Clone, Copy)]
 pub enum Kind {
@@ -62,51 +56,24 @@ fn field_at(table: &[u8], at: usize) -> usize
     requires { at + field_bytes ≤ length table.now }
     ensures { result ≡ little_at field_bytes table.now at }
 {
-    let mut field = 0;
-    let mut i = FIELD_BYTES;
-    while 0 < i {
-        i -= 1;
-        field = 256 * field + wide(table[at + i]);
-    }
-    field
-}
-
-// A byte as a number.
-fn wide(byte: u8) -> usize
-    ensures { (result ≡ byte) × (result < 256) }
-{
-    byte as usize
+    usize::from(u16::from_le_bytes([table[at], table[at + 1]]))
 }
 
 // The kind with a number.
-fn kind_of(number: usize) -> Kind
+fn kind_of(number: u8) -> Kind
     ensures { result ≡ kind_of number }
 {
-    if number == 0 {
-        return Kind::False;
+    match number {
+        0 => Kind::False,
+        1 => Kind::True,
+        2 => Kind::Symbol,
+        3 => Kind::Not,
+        4 => Kind::And,
+        5 => Kind::Or,
+        6 => Kind::Implies,
+        7 => Kind::Equivalent,
+        _ => Kind::Unknown,
     }
-    if number == 1 {
-        return Kind::True;
-    }
-    if number == 2 {
-        return Kind::Symbol;
-    }
-    if number == 3 {
-        return Kind::Not;
-    }
-    if number == 4 {
-        return Kind::And;
-    }
-    if number == 5 {
-        return Kind::Or;
-    }
-    if number == 6 {
-        return Kind::Implies;
-    }
-    if number == 7 {
-        return Kind::Equivalent;
-    }
-    Kind::Unknown
 }
 
 // Node `i` of a table.
@@ -115,7 +82,7 @@ pub fn node_at(table: &[u8], i: usize) -> Node
     ensures { result ≡ node_at table.now i }
 {
     let at = NODE_BYTES * i;
-    let kind = kind_of(wide(table[at]));
+    let kind = kind_of(table[at]);
     let a = field_at(table, at + 1);
     let b = field_at(table, at + 1 + FIELD_BYTES);
     Node { kind, a, b }
@@ -126,13 +93,8 @@ fn put_field(table: &mut [u8], at: usize, field: usize)
     requires { at + field_bytes ≤ length table.old }
     ensures { table.new ≡ splice table.old at (little field_bytes field) }
 {
-    let mut rest = field;
-    let mut i = 0;
-    while i < FIELD_BYTES {
-        table[at + i] = (rest % 256) as u8;
-        rest = rest / 256;
-        i += 1;
-    }
+    let low = (field % 65_536) as u16;
+    table[at..at + FIELD_BYTES].copy_from_slice(&low.to_le_bytes());
 }
 
 // Stores the record of a node from a place on.
@@ -149,17 +111,7 @@ pub fn put_node(table: &mut [u8], at: usize, kind: u8, a: usize, b: usize)
 fn is_known(kind: Kind) -> bool
     ensures { result ≡ known kind }
 {
-    match kind {
-        Kind::False => true,
-        Kind::True => true,
-        Kind::Symbol => true,
-        Kind::Not => true,
-        Kind::And => true,
-        Kind::Or => true,
-        Kind::Implies => true,
-        Kind::Equivalent => true,
-        Kind::Unknown => false,
-    }
+    !matches!(kind, Kind::Unknown)
 }
 
 // What field a of a kind holds.
@@ -167,15 +119,9 @@ fn use_of_a(kind: Kind) -> Use
     ensures { result ≡ use_of_a kind }
 {
     match kind {
-        Kind::False => Use::Unused,
-        Kind::True => Use::Unused,
+        Kind::False | Kind::True | Kind::Unknown => Use::Unused,
         Kind::Symbol => Use::Symbol,
-        Kind::Not => Use::Child,
-        Kind::And => Use::Child,
-        Kind::Or => Use::Child,
-        Kind::Implies => Use::Child,
-        Kind::Equivalent => Use::Child,
-        Kind::Unknown => Use::Unused,
+        Kind::Not | Kind::And | Kind::Or | Kind::Implies | Kind::Equivalent => Use::Child,
     }
 }
 
@@ -184,15 +130,8 @@ fn use_of_b(kind: Kind) -> Use
     ensures { result ≡ use_of_b kind }
 {
     match kind {
-        Kind::False => Use::Unused,
-        Kind::True => Use::Unused,
-        Kind::Symbol => Use::Unused,
-        Kind::Not => Use::Unused,
-        Kind::And => Use::Child,
-        Kind::Or => Use::Child,
-        Kind::Implies => Use::Child,
-        Kind::Equivalent => Use::Child,
-        Kind::Unknown => Use::Unused,
+        Kind::And | Kind::Or | Kind::Implies | Kind::Equivalent => Use::Child,
+        Kind::False | Kind::True | Kind::Symbol | Kind::Not | Kind::Unknown => Use::Unused,
     }
 }
 
@@ -203,72 +142,60 @@ fn is_right(options: u32, i: usize, held: Use, field: usize) -> bool
     match held {
         Use::Unused => field == 0,
         Use::Child => field < i,
-        Use::Symbol => {
-            if field == 0 {
-                return false;
-            }
-            field <= options as usize
-        }
+        Use::Symbol => 0 < field && field <= options as usize,
     }
 }
 
 // The fault of a field that is not right.
-fn number_of(held: Use) -> u32
-    ensures { result ≡ fault_number held }
+fn fault_in(held: Use) -> Fault
+    ensures { result ≡ fault_in held }
 {
     match held {
-        Use::Unused => UNUSED_NOT_ZERO,
-        Use::Child => CHILD_NOT_BELOW,
-        Use::Symbol => SYMBOL_OUTSIDE,
+        Use::Unused => Fault::UnusedNotZero,
+        Use::Child => Fault::ChildNotBelow,
+        Use::Symbol => Fault::SymbolOutside,
     }
 }
 
-// The fault of a field of node `i`, 0 where it is right.
-fn field_fault(options: u32, i: usize, held: Use, field: usize) -> u32
+// The fault of a field of node `i`, where it is not right.
+fn field_fault(options: u32, i: usize, held: Use, field: usize) -> Option<Fault>
     ensures { result ≡ field_fault options i held field }
 {
     if is_right(options, i, held, field) {
-        return 0;
+        return None;
     }
-    number_of(held)
+    Some(fault_in(held))
 }
 
-// Whether one of two faults is a number's.
-fn is_either(a: u32, b: u32, number: u32) -> bool
-    ensures { result ≡ (eqb a number || eqb b number) }
+// Whether one of two fields has a fault.
+fn is_either(a: Option<Fault>, b: Option<Fault>, fault: Fault) -> bool
+    ensures { result ≡ (eqb (fault_told a) (number_of_fault fault) || eqb (fault_told b) (number_of_fault fault)) }
 {
-    if a == number {
-        return true;
-    }
-    b == number
+    a == Some(fault) || b == Some(fault)
 }
 
-// Of the faults of a kind and two fields the one that is looked at first, 0 where there is none.
-fn first_fault(known: bool, a: u32, b: u32) -> u32
+// Of the faults of a kind and two fields the one that is looked at first.
+fn first_fault(known: bool, a: Option<Fault>, b: Option<Fault>) -> Option<Fault>
     ensures { result ≡ first_fault known a b }
 {
-    let unused = is_either(a, b, UNUSED_NOT_ZERO);
-    let child = is_either(a, b, CHILD_NOT_BELOW);
-    let symbol = is_either(a, b, SYMBOL_OUTSIDE);
-    let unknown = !known;
-    if unknown {
-        return UNKNOWN_KIND;
+    if !known {
+        return Some(Fault::UnknownKind);
     }
-    if unused {
-        return UNUSED_NOT_ZERO;
+    if is_either(a, b, Fault::UnusedNotZero) {
+        return Some(Fault::UnusedNotZero);
     }
-    if child {
-        return CHILD_NOT_BELOW;
+    if is_either(a, b, Fault::ChildNotBelow) {
+        return Some(Fault::ChildNotBelow);
     }
-    if symbol {
-        return SYMBOL_OUTSIDE;
+    if is_either(a, b, Fault::SymbolOutside) {
+        return Some(Fault::SymbolOutside);
     }
-    0
+    None
 }
 
-// The refusal number of node `i`, 0 where its record is right.
-pub fn fault(options: u32, i: usize, node: Node) -> u32
-    ensures { result ≡ fault_of options i node }
+// The fault of the record of node `i`, where it is not right.
+pub fn fault(options: u32, i: usize, node: Node) -> Option<Fault>
+    ensures { result ≡ fault_found options i node }
 {
     let kind = node.kind;
     let a = field_fault(options, i, use_of_a(kind), node.a);

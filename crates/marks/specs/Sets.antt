@@ -2,8 +2,10 @@
 -- Assumes nothing: these are definitions.
 use Rattle.std.specs.Prelude.{Bool, cond, not, ◌||◌, true, false, ◌&&◌, List, ℕ, suc, eqb, ltb, length, get_or}
 use Rattle.laws.specs.Lists.{first}
-use Rattle.answer.specs.declared.Answer.{Answer}
-use Rattle.answer.specs.declared.Answer.TheVariants.{Accepted, Set}
+use Rattle.answer.specs.Answers.{Answer}
+use Rattle.answer.specs.Answers.{accepted_with}
+use Rattle.std.specs.Prelude.{Err}
+use Rattle.answer.specs.declared.Refusal.TheVariants.{Set}
 use Rattle.formula.specs.Tables.{node_in}
 use Rattle.formula.specs.declared.node.Kind.{Kind}
 use Rattle.formula.specs.declared.node.Kind.TheVariants.{False, True, Symbol, Not, And, Or, Implies, Equivalent, Unknown}
@@ -47,5 +49,5 @@ first_wrong_byte ns s = first (byte_right ns s) (length ns)
 abbrev pub set_checked : List Node → List ℕ → Answer
 set_checked ns s =
     cond (eqb (length s) (length ns))
-    (cond (ltb (first_wrong_byte ns s) (length ns)) (Set (first_wrong_byte ns s)) (Accepted 0 0))
-    (Set (length ns))
+    (cond (ltb (first_wrong_byte ns s) (length ns)) (Err (Set (first_wrong_byte ns s))) (accepted_with 0 0))
+    (Err (Set (length ns)))

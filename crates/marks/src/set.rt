@@ -4,104 +4,73 @@ ghost use Rattle.marks.specs.Inner.Held.{Marked, MarkedAt};
 ghost use Rattle.formula.specs.Tables.{node_count, nodes_of};
 ghost use Rattle.marks.specs.Sets.{renamed, operator, reached, may_rename, byte_right, first_wrong_byte, set_checked};
 
-use crate::mark::{Mark, read};
-use answer::Answer;
+use crate::mark::{Mark, Marks, read};
+use answer::{Accepted, Answer, Refusal};
 use formula::node::{Kind, NODE_BYTES, node_at};
 
 // Whether node `i` is renamed.
 pub fn is_renamed(set: &[u8], i: usize) -> bool
     ensures { result ≡ renamed set.now i }
 {
-    if i < set.len() { set[i] == 1 } else { false }
+    i < set.len() && set[i] == 1
 }
 
 // Whether a kind is one of 3 to 7.
 fn is_operator(kind: Kind) -> bool
     ensures { result ≡ operator kind }
 {
-    match kind {
-        Kind::False => false,
-        Kind::True => false,
-        Kind::Symbol => false,
-        Kind::Not => true,
-        Kind::And => true,
-        Kind::Or => true,
-        Kind::Implies => true,
-        Kind::Equivalent => true,
-        Kind::Unknown => false,
-    }
+    matches!(
+        kind,
+        Kind::Not | Kind::And | Kind::Or | Kind::Implies | Kind::Equivalent
+    )
 }
 
 // Whether a node with this mark is reached.
 fn is_reached(m: Mark) -> bool
     ensures { result ≡ reached m }
 {
-    m.positive | m.negative
+    m.positive || m.negative
 }
 
 // Whether node `i` of a table may be renamed; `marks` are the marks of its nodes.
-pub fn may_rename(table: &[u8], marks: &[u8; 1024], i: usize) -> bool
+pub fn may_rename(table: &[u8], marks: &Marks, i: usize) -> bool
     requires { MarkedAt table.now marks.now i }
     ensures { result ≡ may_rename (nodes_of table.now) i }
 {
-    let node = node_at(table, i);
-    let kind = node.kind;
-    if !is_operator(kind) {
-        return false;
-    }
-    if !is_reached(read(marks, i)) {
-        return false;
-    }
-    i + 1 != table.len() / NODE_BYTES
+    is_operator(node_at(table, i).kind)
+        && is_reached(read(marks, i))
+        && i + 1 != table.len() / NODE_BYTES
 }
 
 // Whether the byte of node `i` is right: 0, or 1 where the node may be renamed.
-fn is_byte_right(table: &[u8], marks: &[u8; 1024], set: &[u8], i: usize) -> bool
+fn is_byte_right(table: &[u8], marks: &Marks, set: &[u8], i: usize) -> bool
     requires marked_at { MarkedAt table.now marks.now i }
     requires i_in_bounds { i < length set.now }
     ensures { result ≡ byte_right (nodes_of table.now) set.now i }
 {
-    if set[i] == 0 {
-        return true;
+    match set[i] {
+        0 => true,
+        1 => may_rename(table, marks, i),
+        _ => false,
     }
-    if set[i] != 1 {
-        return false;
-    }
-    may_rename(table, marks, i)
-}
-
-// The lowest node whose byte is wrong, or the node count.
-fn first_wrong(table: &[u8], marks: &[u8; 1024], set: &[u8]) -> usize
-    requires marked { Marked table.now marks.now }
-    requires set_len { length set.now ≡ node_count table.now }
-    ensures { result ≡ first_wrong_byte (nodes_of table.now) set.now }
-{
-    let count = table.len() / NODE_BYTES;
-    let mut i = 0;
-    while i < count {
-        if !is_byte_right(table, marks, set, i) {
-            return i;
-        }
-        i += 1;
-    }
-    i
 }
 
 // Checks a set for a checked table; `marks` are the marks of the table's nodes.
-pub fn check(table: &[u8], marks: &[u8; 1024], set: &[u8]) -> Answer
+pub fn check(table: &[u8], marks: &Marks, set: &[u8]) -> Answer
     requires { Marked table.now marks.now }
     ensures { result ≡ set_checked (nodes_of table.now) set.now }
 {
     let count = table.len() / NODE_BYTES;
     if set.len() != count {
-        return Answer::Set { node: count as u32 };
+        return Err(Refusal::Set { node: count as u32 });
     }
-    let node = first_wrong(table, marks, set);
-    if node < count {
-        return Answer::Set { node: node as u32 };
+    for i in 0..count {
+        if !is_byte_right(table, marks, set, i) {
+            return Err(Refusal::Set { node: i as u32 });
+        }
     }
-    Answer::Accepted {
+    Ok(Accepted {
         first: 0,
         second: 0,
-    }
+    })
 }

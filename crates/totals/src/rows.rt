@@ -17,6 +17,20 @@ pub struct Row {
     pub n: Total,
 }
 
+impl Row {
+    // A node that is none of a table.
+    const NONE: Row = Row {
+        p: Total::NONE,
+        n: Total::NONE,
+    };
+
+    // A variable: one clause of one literal for either sign.
+    const UNIT: Row = Row {
+        p: Total::UNIT,
+        n: Total::UNIT,
+    };
+}
+
 // The totals of P and of N of every node, in columns: clauses and literals, each for both signs.
 #[derive(Drop)]
 pub struct Columns {
@@ -30,17 +44,14 @@ fn row_by(node: Node, x: Row, y: Row) -> Row
 {
     match node.kind {
         Kind::False => Row {
-            p: Total::empty(),
-            n: Total::none(),
+            p: Total::EMPTY,
+            n: Total::NONE,
         },
         Kind::True => Row {
-            p: Total::none(),
-            n: Total::empty(),
+            p: Total::NONE,
+            n: Total::EMPTY,
         },
-        Kind::Symbol => Row {
-            p: Total::unit(),
-            n: Total::unit(),
-        },
+        Kind::Symbol => Row::UNIT,
         Kind::Not => Row { p: x.n, n: x.p },
         Kind::And => Row {
             p: x.p.cat(y.p),
@@ -58,10 +69,7 @@ fn row_by(node: Node, x: Row, y: Row) -> Row
             p: x.n.join(y.p).cat(y.n.join(x.p)),
             n: x.n.join(y.n).cat(x.p.join(y.p)),
         },
-        Kind::Unknown => Row {
-            p: Total::none(),
-            n: Total::none(),
-        },
+        Kind::Unknown => Row::NONE,
     }
 }
 
@@ -106,18 +114,12 @@ impl Columns {
         ensures { result ≡ as_row (child_in set.now self.now.clauses self.now.literals i at) }
     {
         if is_renamed(set, at) {
-            return Row {
-                p: Total::unit(),
-                n: Total::unit(),
-            };
+            return Row::UNIT;
         }
         if at < i {
             return self.row_at(at);
         }
-        Row {
-            p: Total::none(),
-            n: Total::none(),
-        }
+        Row::NONE
     }
 
     // The row of node `i`, from the rows before it.

@@ -5,12 +5,13 @@ ghost use Rattle.totals.specs.Inner.Sums.{Triable, Tried};
 use crate::rows::Columns;
 use crate::whole::whole;
 use capped::total::ClauseTotal;
+use marks::mark::Marks;
 
 // Sets the byte of node `i`, and gives the clause total under the set then; no node below `from` is renamed in it. The
 // rows of the nodes up to `i` stand as they were: only those above it see node `i`.
 pub fn trial(
     table: &[u8],
-    marks: &[u8; 1024],
+    marks: &Marks,
     set: &mut [u8],
     from: usize,
     i: usize,

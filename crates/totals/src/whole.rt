@@ -13,7 +13,7 @@ ghost use Rattle.totals.specs.Inner.Sums.{with_part, with_definition, with_node,
 use crate::rows::{Columns, Row};
 use capped::total::Total;
 use formula::node::NODE_BYTES;
-use marks::mark::{Mark, halves_of, read};
+use marks::mark::{Mark, Marks, halves_of, read};
 use marks::set::is_renamed;
 
 // A sum with one more part, where the definition has it.
@@ -31,14 +31,12 @@ fn with_definition(m: Mark, row: Row, sum: Total) -> Total
     ensures { result ≡ as_total (with_definition capped 0 m (rowed row) (sized sum)) }
 {
     let halves = halves_of(m);
-    let p = row.p;
-    let n = row.n;
-    let down = with_part(halves.down, Total::unit().join(p), sum);
-    with_part(halves.up, n.join(Total::unit()), down)
+    let down = with_part(halves.down, Total::UNIT.join(row.p), sum);
+    with_part(halves.up, row.n.join(Total::UNIT), down)
 }
 
 // A sum with what node `i` adds: its definition, where it is renamed.
-fn with_node(marks: &[u8; 1024], set: &[u8], columns: &Columns, i: usize, sum: Total) -> Total
+fn with_node(marks: &Marks, set: &[u8], columns: &Columns, i: usize, sum: Total) -> Total
     requires { i < most_nodes }
     ensures { result ≡ as_total (with_node capped (renamed set.now i) 0 (held_at marks.now i)
         (row_in columns.now.clauses columns.now.literals i) (sized sum)) }
@@ -50,13 +48,13 @@ fn with_node(marks: &[u8; 1024], set: &[u8], columns: &Columns, i: usize, sum: T
 }
 
 // The totals of a table under a set, from its marks and the rows of its nodes; no node below `from` is renamed.
-pub fn whole(table: &[u8], marks: &[u8; 1024], set: &[u8], from: usize, columns: &Columns) -> Total
+pub fn whole(table: &[u8], marks: &Marks, set: &[u8], from: usize, columns: &Columns) -> Total
     requires { Summable table.now marks.now set.now from columns.now.clauses columns.now.literals }
     ensures { result ≡ as_total (totals (renaming 0 set.now) (nodes_of table.now)) }
 {
     let count = table.len() / NODE_BYTES;
     let root = columns.row_at(count - 1);
-    let mut sum = Total::none().cat(root.p);
+    let mut sum = Total::NONE.cat(root.p);
     for i in from..count {
         sum = with_node(marks, set, columns, i, sum);
     }

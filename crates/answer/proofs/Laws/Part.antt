@@ -10,10 +10,10 @@ use lib.ListN.{length, length-append}
 use borrow.Author.Tests.{not-true, not-false, eqb-true, lt-ltb, le-ltb}
 use Rattle.laws.specs.Lists.{splice}
 use Rattle.laws.proofs.Splices.{splice-splice, splice_all}
-use Rattle.answer.specs.Answers.{told_of, bytes_of, Wrote, stored, Left, leaves}
+use Rattle.std.specs.Prelude.{Err}
+use Rattle.answer.specs.Answers.{Answer, told_of, bytes_of, Wrote, stored, Left, leaves}
 use Rattle.answer.specs.Inner.Given.{Given}
-use Rattle.answer.specs.declared.Answer.{Answer}
-use Rattle.answer.specs.declared.Answer.TheVariants.{Room}
+use Rattle.answer.specs.declared.Refusal.TheVariants.{Room}
 
 module _ {O : Type 0} where
   -- a part that is not 16 bytes long is refusal 11 whatever the answer, and nothing is written
@@ -47,7 +47,7 @@ module _ {O : Type 0} where
 
 -- what is stored needs room, and is there
 pub stored_short : (a : Answer) (bytes before : List ℕ) → length before < length bytes
-    → record { answer = Room; output = before } ≡ stored a bytes before
+    → record { answer = Err Room; output = before } ≡ stored a bytes before
 stored_short a bytes before h = rw (lt-ltb (length before) (length bytes) h)
 
 pub stored-fits : (a : Answer) (bytes before after : List ℕ) → length bytes ≤ length before → after ≡ splice before 0 bytes

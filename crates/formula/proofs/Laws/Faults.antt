@@ -10,35 +10,46 @@ use native.Mathlib.Omega.{arith}
 use lib.Dec.{eqb}
 use lib.ListN.{length}
 use borrow.Author.Tests.{eqb-true, eq-eqb, ne_eqb, lt-ltb, le-ltb}
-use Rattle.answer.specs.declared.Answer.TheVariants.{Accepted, Record}
+use Rattle.std.specs.Prelude.{Option, Some, None}
+use Rattle.answer.specs.Answers.{accepted_with}
+use Rattle.answer.specs.declared.Fault.{Fault}
+use Rattle.answer.specs.declared.Fault.TheVariants.{UnknownKind, UnusedNotZero, ChildNotBelow, SymbolOutside}
 use Rattle.laws.proofs.Choices.{both}
 use Rattle.laws.proofs.First.{first-before, first_fails}
 use Rattle.formula.specs.Tables.{most_options, node_at, node_count, known, use_of_a, use_of_b, field_right, fault_of}
-use Rattle.formula.specs.Tables.{unused_not_zero, child_not_below, symbol_outside, fault_number, field_fault, first_fault}
-use Rattle.formula.specs.Checks.{length_wrong, record_right, first_wrong, checked}
+use Rattle.formula.specs.Tables.{unused_not_zero, child_not_below, fault_in, fault_number, fault_told, field_fault}
+use Rattle.formula.specs.Tables.{first_fault, fault_found}
+use Rattle.formula.specs.Checks.{length_wrong, record_right, first_wrong, record_told, checked}
 use Rattle.formula.specs.declared.node.Node.{Node}
 use Rattle.formula.specs.declared.node.Use.{Use}
 use Rattle.formula.specs.declared.node.Use.TheVariants as held
 
 -- a fault of the first field is told, whatever the other one has
-first_some : (u : Use) (y : ℕ) → eqb (first_fault true (fault_number u) y) 0 ≡ false
+first_some : (u : Use) (y : Option Fault) → eqb (fault_told (first_fault true (Some (fault_in u)) y)) 0 ≡ false
 first_some held.Unused y = refl
-first_some held.Child y = go (eqb y unused_not_zero)
+first_some held.Child y = go (eqb (fault_told y) unused_not_zero)
   where
-    go : (p : Bool) → eqb (cond p unused_not_zero child_not_below) 0 ≡ false
+    go : (p : Bool) → eqb (fault_told (cond p (Some UnusedNotZero) (Some ChildNotBelow))) 0 ≡ false
     go true = refl
     go false = refl
-first_some held.Symbol y = go (eqb y unused_not_zero) (eqb y child_not_below)
+first_some held.Symbol y = go (eqb (fault_told y) unused_not_zero) (eqb (fault_told y) child_not_below)
   where
-    go : (p q : Bool) → eqb (cond p unused_not_zero (cond q child_not_below symbol_outside)) 0 ≡ false
+    go : (p q : Bool) → eqb (fault_told (cond p (Some UnusedNotZero) (cond q (Some ChildNotBelow) (Some SymbolOutside)))) 0 ≡ false
     go true q = refl
     go false true = refl
     go false false = refl
 
-second-some : (u : Use) → eqb (first_fault true 0 (fault_number u)) 0 ≡ false
+second-some : (u : Use) → eqb (fault_told (first_fault true None (Some (fault_in u)))) 0 ≡ false
 second-some held.Unused = refl
 second-some held.Child = refl
 second-some held.Symbol = refl
+
+-- no fault has the number 0
+pub some_told : (fault : Fault) → eqb (fault_told (Some fault)) 0 ≡ false
+some_told UnknownKind = refl
+some_told UnusedNotZero = refl
+some_told ChildNotBelow = refl
+some_told SymbolOutside = refl
 
 -- a record has no fault exactly where its kind is known and both fields are right
 pub no_fault : (v i : ℕ) (n : Node) → eqb (fault_of v i n) 0
@@ -48,11 +59,11 @@ no_fault v i n =
     (field_right v i (use_of_b n.kind) n.b)
   where
     go : (k : Bool) (s u : Use) (a b : Bool)
-        → eqb (first_fault k (cond a 0 (fault_number s)) (cond b 0 (fault_number u))) 0 ≡ (k && (a && b))
+        → eqb (fault_told (first_fault k (cond a None (Some (fault_in s))) (cond b None (Some (fault_in u))))) 0 ≡ (k && (a && b))
     go false s u a b = refl
     go true s u true true = refl
     go true s u true false = second-some u
-    go true s u false b = first_some s (cond b 0 (fault_number u))
+    go true s u false b = first_some s (cond b None (Some (fault_in u)))
 
 -- what a record without a fault keeps
 pub record Keeps (v i : ℕ) (n : Node) : Type 0 where
@@ -89,25 +100,28 @@ same_use held.Symbol held.Child e = absurd (omega arith)
 same_use held.Symbol held.Symbol e = refl
 
 -- a wrong field has the number of its use, and no other field has it
-wrong-number : (v i : ℕ) (s u : Use) (x : ℕ) → s ≡ u → field_right v i u x ≡ false → field_fault v i s x ≡ fault_number u
-wrong-number v i s u x e f = ap (λ (w : Use). field_fault v i w x) e ∙ ap (λ (b : Bool). cond b 0 (fault_number u)) f
+wrong-number : (v i : ℕ) (s u : Use) (x : ℕ) → s ≡ u → field_right v i u x ≡ false → fault_told (field_fault v i s x) ≡ fault_number u
+wrong-number v i s u x e f =
+    ap (λ (w : Use). fault_told (field_fault v i w x)) e ∙ ap (λ (b : Bool). fault_told (cond b None (Some (fault_in u)))) f
 
-wrong_of_number : (v i : ℕ) (s u : Use) (x : ℕ) → field_fault v i s x ≡ fault_number u → (s ≡ u) × (field_right v i u x ≡ false)
+wrong_of_number : (v i : ℕ) (s u : Use) (x : ℕ) → fault_told (field_fault v i s x) ≡ fault_number u
+    → (s ≡ u) × (field_right v i u x ≡ false)
 wrong_of_number v i s u x e = go (field_right v i s x) refl e
   where
-    go : (b : Bool) → field_right v i s x ≡ b → cond b 0 (fault_number s) ≡ fault_number u → (s ≡ u) × (field_right v i u x ≡ false)
+    go : (b : Bool) → field_right v i s x ≡ b → fault_told (cond b None (Some (fault_in s))) ≡ fault_number u
+        → (s ≡ u) × (field_right v i u x ≡ false)
     go true p q = absurd (some_number u (sym q))
     go false p q = let same = same_use s u q in (same, ap (λ (w : Use). field_right v i w x) (sym same) ∙ p)
 
 module _ (v i : ℕ) (n : Node) where
   -- whether one of the two fields has a fault
   abbrev has : ℕ → Bool
-  has k = eqb (field_fault v i (use_of_a n.kind) n.a) k || eqb (field_fault v i (use_of_b n.kind) n.b) k
+  has k = eqb (fault_told (field_fault v i (use_of_a n.kind) n.a)) k || eqb (fault_told (field_fault v i (use_of_b n.kind) n.b)) k
 
   has-wrong : (u : Use) → WrongField v i n u → has (fault_number u) ≡ true
-  has-wrong u (in_a e f) = ap (λ (p : Bool). p || eqb (field_fault v i (use_of_b n.kind) n.b) (fault_number u))
+  has-wrong u (in_a e f) = ap (λ (p : Bool). p || eqb (fault_told (field_fault v i (use_of_b n.kind) n.b)) (fault_number u))
       (eq-eqb _ (fault_number u) (wrong-number v i (use_of_a n.kind) u n.a e f))
-  has-wrong u (in_b e f) = or_right (eqb (field_fault v i (use_of_a n.kind) n.a) (fault_number u))
+  has-wrong u (in_b e f) = or_right (eqb (fault_told (field_fault v i (use_of_a n.kind) n.a)) (fault_number u))
       (eq-eqb _ (fault_number u) (wrong-number v i (use_of_b n.kind) u n.b e f))
     where
       or_right : (p : Bool) {q : Bool} → q ≡ true → (p || q) ≡ true
@@ -117,10 +131,10 @@ module _ (v i : ℕ) (n : Node) where
   has-none : (u : Use) → (WrongField v i n u → ⊥) → has (fault_number u) ≡ false
   has-none u none = rw (ne_eqb _ (fault_number u) not_a, ne_eqb _ (fault_number u) not_b)
     where
-      not_a : field_fault v i (use_of_a n.kind) n.a ≡ fault_number u → ⊥
+      not_a : fault_told (field_fault v i (use_of_a n.kind) n.a) ≡ fault_number u → ⊥
       not_a e = let w = wrong_of_number v i (use_of_a n.kind) u n.a e in none (in_a w.0 w.1)
 
-      not_b : field_fault v i (use_of_b n.kind) n.b ≡ fault_number u → ⊥
+      not_b : fault_told (field_fault v i (use_of_b n.kind) n.b) ≡ fault_number u → ⊥
       not_b e = let w = wrong_of_number v i (use_of_b n.kind) u n.b e in none (in_b w.0 w.1)
 
   -- an unknown kind is refusal 3, whatever the fields are
@@ -152,7 +166,7 @@ found-wrong t v h e =
 module _ (t : List ℕ) (v : ℕ) (lengths : length_wrong (length t) ≡ false) (options : v ≤ most_options) where
   -- the lowest faulty node decides, whatever its fault
   pub lowest-decides : (j : ℕ) → j < node_count t → ((i : ℕ) → i < j → fault_of v i (node_at t i) ≡ 0)
-      → (fault_of v j (node_at t j) ≡ 0 → ⊥) → checked t v ≡ Record (fault_of v j (node_at t j)) j
+      → (fault_of v j (node_at t j) ≡ 0 → ⊥) → checked t v ≡ record_told (fault_found v j (node_at t j)) j
   lowest-decides j within before here =
       rw (lengths, le-ltb most_options v options, sym found, lt-ltb j (node_count t) within)
     where
@@ -166,7 +180,7 @@ module _ (t : List ℕ) (v : ℕ) (lengths : length_wrong (length t) ≡ false) 
       found = omega (arith, not-below, not_above)
 
   -- a table is accepted where no record has a fault; `accepts` of WellFormed says that it is accepted nowhere else
-  pub accepted_of_no_fault : ((i : ℕ) → i < node_count t → fault_of v i (node_at t i) ≡ 0) → checked t v ≡ Accepted 0 0
+  pub accepted_of_no_fault : ((i : ℕ) → i < node_count t → fault_of v i (node_at t i) ≡ 0) → checked t v ≡ accepted_with 0 0
   accepted_of_no_fault right = rw (lengths, le-ltb most_options v options, le-ltb (first_wrong t v) (node_count t) none)
     where
       found : first_wrong t v < node_count t → ⊥

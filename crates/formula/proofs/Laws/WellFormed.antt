@@ -1,22 +1,24 @@
 -- What an accepted table gives: every record is right, so children are below their parents and symbols are options.
 -- Assumes nothing.
-use mathlib.Core.Path.{◌≡◌, refl, sym, ap, ◌∙◌, subst, subst⁻¹}
+use mathlib.Core.Path.{◌≡◌, refl, ap, ◌∙◌, subst, subst⁻¹}
 use mathlib.Core.Bool.{Bool, true, false, cond, not, ◌||◌}
 use mathlib.Core.List.{List, []}
-use Prim.Native.Nat.{ℕ, ◌+◌, ◌*◌, ◌<◌, ◌≤◌, ◌/◌, ◌%◌}
+use Prim.Native.Nat.{ℕ, ◌*◌, ◌<◌, ◌≤◌, ◌%◌}
 use native.Mathlib.Omega.{arith}
 use lib.Dec.{eqb, leb, ltb}
 use lib.ListN.{length, get_or-eq_default}
 use borrow.Author.Tests.{eqb-true, eqb-false, ltb-true, ltb-false, leb-true, not-false}
-use Rattle.answer.specs.declared.Answer.TheVariants.{Accepted, TableLength, Options, Record}
+use Rattle.std.specs.Prelude.{Option, Some, None, Err}
+use Rattle.answer.specs.declared.Fault.{Fault}
+use Rattle.answer.specs.declared.Refusal.TheVariants.{TableLength, Options}
 use Rattle.laws.proofs.Choices.{neither}
 use Rattle.laws.proofs.First.{first-before, first_fails}
-use Rattle.answer.specs.Answers.{refuses}
+use Rattle.answer.specs.Answers.{accepted_with, refuses}
 use Rattle.answer.proofs.Laws.Order.{passes}
 use Rattle.formula.specs.Tables.{node_bytes, most_nodes, most_options, node_at, node_count, nodes_of, node_in, use_of_a, use_of_b}
-use Rattle.formula.specs.Tables.{field_right, fault_of}
+use Rattle.formula.specs.Tables.{field_right, fault_told, fault_found, fault_of}
 use Rattle.formula.specs.Inner.Right.{FieldBelow, Below, WellFormed, RightLength}
-use Rattle.formula.specs.Checks.{length_wrong, record_right, first_wrong, checked}
+use Rattle.formula.specs.Checks.{length_wrong, record_right, first_wrong, record_told, checked}
 use Rattle.formula.proofs.Laws.Faults.{keeps_of_no_fault}
 use Rattle.formula.proofs.Laws.Tables.{length-nodes_of, node_in-nodes_of}
 use Rattle.formula.specs.declared.node.Kind.{Kind}
@@ -36,23 +38,28 @@ record Passed (t : List ℕ) (v : ℕ) : Type 0 where
   options : ltb most_options v ≡ false
   records : ltb (first_wrong t v) (node_count t) ≡ false
 
+-- a record with a fault is refused
+refused_fault : (fault : Option Fault) (i : ℕ) → eqb (fault_told fault) 0 ≡ false → refuses (record_told fault i) ≡ true
+refused_fault None i e = let z : ◌≡◌ {A = ℕ} 0 1 = cc in absurd (omega arith)
+refused_fault (Some fault) i e = refl
+
 passed : (t : List ℕ) (v : ℕ) → refuses (checked t v) ≡ false → Passed t v
 passed t v e =
-    let wrong : ltb (first_wrong t v) (node_count t) ≡ true → refuses
-    (Record (fault_of v (first_wrong t v) (node_at t (first_wrong t v))) (first_wrong t v)) ≡ true =
-    λ p. ap not (first_fails (record_right t v) (node_count t) (ltb-true (first_wrong t v) (node_count t) p)) in
-    let e₁ = passes (length_wrong (length t)) TableLength _ (λ p. refl) e in
-    let e₂ = passes (ltb most_options v) Options _ (λ p. refl) e₁.1 in
-    let e₃ = passes (ltb (first_wrong t v) (node_count t)) _ (Accepted 0 0) wrong e₂.1 in
+    let j = first_wrong t v in
+    let wrong : ltb j (node_count t) ≡ true → refuses (record_told (fault_found v j (node_at t j)) j) ≡ true =
+    λ p. refused_fault _ j (first_fails (record_right t v) (node_count t) (ltb-true j (node_count t) p)) in
+    let e₁ = passes (length_wrong (length t)) (Err TableLength) _ (λ p. refl) e in
+    let e₂ = passes (ltb most_options v) (Err Options) _ (λ p. refl) e₁.1 in
+    let e₃ = passes (ltb j (node_count t)) _ (accepted_with 0 0) wrong e₂.1 in
     record { lengths = e₁.0; options = e₂.0; records = e₃.0 }
 
 -- a check that does not refuse accepts, with two zeros
-pub checked-accepted : (t : List ℕ) (v : ℕ) → refuses (checked t v) ≡ false → checked t v ≡ Accepted 0 0
+pub checked-accepted : (t : List ℕ) (v : ℕ) → refuses (checked t v) ≡ false → checked t v ≡ accepted_with 0 0
 checked-accepted t v e =
     let p : Passed t v = passed t v e in
     rw (p.lengths, p.options, p.records)
 
-pub accepts : (t : List ℕ) (v x y : ℕ) → checked t v ≡ Accepted x y → Accepts t v
+pub accepts : (t : List ℕ) (v x y : ℕ) → checked t v ≡ accepted_with x y → Accepts t v
 accepts t v x y e =
     let p : Passed t v = passed t v (ap refuses e) in
     let all : node_count t ≤ first_wrong t v = ltb-false (first_wrong t v) (node_count t) p.records in
@@ -91,7 +98,7 @@ symbol-right v i x e = go (eqb x 0) refl e
 past : (ns : List Node) (i : ℕ) → length ns ≤ i → node_in ns i ≡ node_in [] i
 past ns i h = get_or-eq_default ns (node_in [] i) h
 
-pub accepted_well_formed : (t : List ℕ) (v x y : ℕ) → checked t v ≡ Accepted x y → WellFormed v (nodes_of t)
+pub accepted_well_formed : (t : List ℕ) (v x y : ℕ) → checked t v ≡ accepted_with x y → WellFormed v (nodes_of t)
 accepted_well_formed t v x y e = record {
   some = omega (arith, length-nodes_of t, (right-length (length t) a.lengths).some);
   below = λ i. at i (ltb i (node_count t)) refl;

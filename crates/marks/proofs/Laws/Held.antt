@@ -1,19 +1,22 @@
 -- The array that holds marks: reading, marking and passing on in the array are those of the list of marks.
 -- Assumes nothing.
 use mathlib.Core.Path.{◌≡◌, refl, sym, ap, ◌∙◌}
-use mathlib.Core.Bool.{Bool, true, false, cond}
+use mathlib.Core.Bool.{Bool, true, false, cond, not, ◌&&◌}
 use mathlib.Core.List.{List, [], ◌∷◌, ◌++◌, map}
 use Prim.Native.Nat.{ℕ, zero, suc, ◌+◌, ◌-◌, ◌≤◌, ◌<◌}
 use native.Mathlib.Omega.{arith}
-use lib.Dec.{ltb}
-use lib.ListN.{length, get_or, set, replicate, length-map, length-replicate, length-set, get_or-map, replicate-append-replicate}
+use native.Mathlib.Numerals.{add-one}
+use lib.Dec.{eqb, ltb}
+use lib.ListN.{length, set, replicate, length-map, length-replicate, length-set, get_or-map, replicate-append-replicate}
 use lib.Seq.{set_out}
-use borrow.Author.Tests.{ltb-true, ltb-false, lt-ltb, le-ltb}
+use borrow.Author.Tests.{ltb-true, ltb-false}
 use Rattle.laws.specs.Inner.Stores.{pad_to}
 use Rattle.laws.proofs.Arrays.{get_d_pad, pad_set}
-use Rattle.formula.specs.Tables.{most_nodes}
-use Rattle.marks.specs.Marks.{unmarked, positive, joined, to_a, to_b, mark_in, mark, pass_on, root_marked}
-use Rattle.marks.specs.Inner.Held.{byte_of, mark_by, held, held_at, held_more, held_passed}
+use Rattle.formula.specs.Tables.{most_nodes, node_at, node_count, nodes_of}
+use Rattle.formula.proofs.Laws.Tables.{length-nodes_of, node_in-nodes_of}
+use Rattle.marks.specs.Marks.{unmarked, positive, joined, to_a, to_b, mark_in, mark, pass_on, root_marked, marks_of, mark_of}
+use Rattle.marks.specs.Sets.{operator, reached, may_rename}
+use Rattle.marks.specs.Inner.Held.{byte_of, mark_by, held, held_at, held_more, held_passed, MarkedAt}
 use Rattle.marks.specs.declared.mark.Mark.{Mark}
 use Rattle.formula.specs.declared.node.Node.{Node}
 
@@ -79,3 +82,11 @@ pub held-root : (n : ℕ) → 0 < n → n ≤ most_nodes → set (replicate most
 held-root n p h =
     ap (λ (l : List ℕ). set l (n - 1) 1) (held-unmarked n h)
     ∙ held-set (replicate n unmarked) (n - 1) positive (omega (arith, length-replicate n unmarked))
+
+-- whether a node may be renamed, as the table and the array tell it
+pub may_rename_at : (t marks : List ℕ) (i : ℕ) → MarkedAt t marks i
+    → (operator (node_at t i).kind && (reached (held_at marks i) && not (eqb (i + 1) (node_count t)))) ≡ may_rename (nodes_of t) i
+may_rename_at t marks i m =
+    let ns = nodes_of t in
+    let mark : held_at marks i ≡ mark_of ns i = ap (λ l. held_at l i) m.marked.are ∙ held_at-held (marks_of ns) i in
+    rw (node_in-nodes_of t i m.inside, ← mark, length-nodes_of t, add-one i)

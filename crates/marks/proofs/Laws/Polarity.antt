@@ -1,19 +1,19 @@
 -- The marks are exactly what the rules say: a node has a sign if and only if some path from the root gives it.
 -- Assumes nothing.
-use mathlib.Core.Path.{◌≡◌, refl, sym, ap, ◌∙◌, subst, subst⁻¹}
+use mathlib.Core.Path.{◌≡◌, refl, ap, ◌∙◌, subst, subst⁻¹}
 use mathlib.Core.Logic.{⊎_elim, ◌≢◌, ◌↔◌}
 use mathlib.Core.Bool.{Bool, true, false, not}
 use mathlib.Core.List.{List, []}
-use Prim.Native.Nat.{ℕ, zero, suc, ◌+◌, ◌-◌, ◌≤◌, ◌<◌}
+use Prim.Native.Nat.{ℕ, zero, suc, ◌-◌, ◌≤◌, ◌<◌}
 use native.Mathlib.Omega.{arith}
 use lib.Dec.{T, eqb, ltb}
-use lib.ListN.{length, set, replicate, length-set, length-replicate, get_or-eq_default, get_or-replicate}
+use lib.ListN.{length, replicate, length-set, length-replicate, get_or-eq_default, get_or-replicate}
 use lib.Seq.{get_or-set_same, get_or-set_other, set_out}
 use borrow.Author.Tests.{eqb-true, eqb-false, ltb-true, ltb-false}
-use Rattle.answer.specs.declared.Answer.TheVariants.{Accepted}
+use Rattle.answer.specs.Answers.{accepted_with}
 use Rattle.formula.specs.Tables.{nodes_of, node_in}
 use Rattle.formula.specs.Checks.{checked}
-use Rattle.marks.specs.Marks.{unmarked, positive, joined, turned, doubled, to_a, to_b, mark_in, mark, pass_on, down_from, root_marked}
+use Rattle.marks.specs.Marks.{unmarked, positive, joined, to_a, to_b, mark_in, mark, pass_on, down_from, root_marked}
 use Rattle.marks.specs.Marks.{marks_of, mark_of}
 use Rattle.marks.specs.Paths.{Reached, root, not_a, and_a, and_b, or_a, or_b, implies_a, implies_b, equivalent_a, equivalent_b, has}
 use Rattle.formula.specs.Inner.Right.{Below, WellFormed}
@@ -214,7 +214,7 @@ module _ (ns : List Node) where
     marked h (equivalent_b {s} z i r e) = to_b_lem i z e (doubled-has (mark_of ns i) s z (marked h r))
 
 -- a node of an accepted table has a sign if and only if some path from the root gives it
-pub marks_are_paths : (t : List ℕ) (v x y : ℕ) → checked t v ≡ Accepted x y → (z : Bool) (i : ℕ)
+pub marks_are_paths : (t : List ℕ) (v x y : ℕ) → checked t v ≡ accepted_with x y → (z : Bool) (i : ℕ)
     → T (has z (mark_of (nodes_of t) i)) ↔ Reached (nodes_of t) z i
 marks_are_paths t v x y e z i =
     let ns : List Node = nodes_of t in

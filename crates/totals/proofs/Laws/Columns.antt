@@ -15,7 +15,6 @@ use Rattle.laws.proofs.Upward.{length-up_to}
 use Rattle.formula.specs.Inner.Right.{Below}
 use Rattle.formula.specs.Tables.{most_nodes, node_in}
 use Rattle.marks.specs.Sets.{renamed}
-use Rattle.formula.specs.declared.node.Kind.{Kind}
 use Rattle.formula.specs.declared.node.Node.{Node}
 use Rattle.clausal.specs.Clauses as algebra
 use Rattle.clausal.specs.Clauses.{Renaming, renaming, name_of, seen, row_from}
@@ -23,19 +22,10 @@ use Rattle.clausal.specs.Totals.{Size, capped}
 use Rattle.clausal.proofs.Reuse.{rows_kept_by_trial}
 use Rattle.clausal.proofs.Rows.{get_d_rows, row_from_lem, row-past, seen_plain, seen-renamed}
 use Rattle.totals.specs.Inner.Columns.{cell, row_in, child_in, row_next, row_totals, zeros, Ready}
-use Rattle.capped.specs.Inner.Sized.{as_total}
 use Rattle.totals.specs.Inner.Rowed.{rowed, as_row}
 use Rattle.totals.specs.declared.rows.Row.{Row}
-use Rattle.capped.specs.declared.total.Total.{Total}
 use Rattle.totals.proofs.Laws.Grids.{put_both, both_shaped, both_positive, both_negative, both-other, zeros_shaped, zeros-cell}
 use Rattle.totals.proofs.Laws.Grids.{same_cells}
-
--- the row of a node, from the totals of its P and its N
-pub ruled : (kind k : Kind) (a : ℕ) (x y : algebra.Row Size) (p n : Total) → kind ≡ k
-    → p ≡ as_total (algebra.row_by capped k a x y).P → n ≡ as_total (algebra.row_by capped k a x y).N
-    → record { p = p; n = n } ≡ as_row (algebra.row_by capped kind a x y)
-ruled kind k a x y p n e f g =
-    (λ i. record { p = f i; n = g i }) ∙ ap (λ (h : Kind). as_row (algebra.row_by capped h a x y)) (sym e)
 
 -- a row, entry by entry
 entries : {a b c d e f g h : ℕ} → a ≡ e → b ≡ f → c ≡ g → d ≡ h

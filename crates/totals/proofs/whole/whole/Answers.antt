@@ -29,7 +29,7 @@ loop-i-init c =
     ∙ ready-row s ns _ _ _ (omega (arith, length-nodes_of t)) c.requires.ready _
     ∙ ap (λ (k : ℕ). row_of capped (name_of (renaming 0 s)) ns (k - 1)) (sym (length-nodes_of t)) in
     c.cat-sum.ensures
-    ∙ (λ i. as_total (capped.cat (sized (c.none.ensures i)) (row i).P))
+    ∙ ap (λ r. as_total (capped.cat capped.none r.P)) row
     ∙ ap as_total (whole-start capped (renaming 0 s) ns _ c.requires.low)
 
 pub loop-i-preserved : goal.loop-i-preserved
@@ -43,28 +43,8 @@ loop-i-preserved c =
     ∙ (λ j. as_total (with_node capped (renamed s i) 0 (mark j) (row j) (sized (c.loop-i.invariant j))))
     ∙ ap as_total (sym (whole-more capped (renaming 0 s) ns i))
 
-pub with_node-sum-requires : goal.with_node-sum-requires
-with_node-sum-requires c =
-    omega (arith, c.requires.marked.size.most)
-
 pub returns : goal.returns
 returns c =
     let t = c.args.table.now in
     let e : c.loop-i.i ≡ length (nodes_of t) = omega (arith, length-nodes_of t) in
     c.loop-i.invariant ∙ ap (λ (k : ℕ). as_total (whole_to capped (renaming 0 c.args.set.now) (nodes_of t) k)) e
-
-pub overflow_sub-count : goal.overflow_sub-count
-overflow_sub-count c =
-    omega (arith, c.requires.marked.size.some)
-
-pub row_at-root-requires : goal.row_at-root-requires
-row_at-root-requires c =
-    omega (arith, c.requires.marked.size.most)
-
-pub none-requires : goal.none-requires
-none-requires c =
-    tt
-
-pub cat-sum-requires : goal.cat-sum-requires
-cat-sum-requires c =
-    tt

@@ -4,4 +4,4 @@ use Rattle.capped.proofs.Laws.Stated.{stated-shown}
 use Rattle.capped.proofs.total.Total.cat.Goals as goal
 
 pub returns : goal.returns
-returns c = c.stated.ensures ∙ stated-shown _ _ _ _ c.add-clauses.ensures c.add-literals.ensures
+returns c = c.stated.ensures ∙ stated-shown _ _ _ _ c.add.ensures c.add-2.ensures

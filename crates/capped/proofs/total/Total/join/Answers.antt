@@ -12,7 +12,7 @@ pub returns : goal.returns
 returns c =
     let own : Size = sized c.args.self in
     let other : Size = sized c.args.other in
-    let literals : c.join-literals.result.n ≡ cap literal_ceiling (sizes.join own other).literals =
-    c.join-literals.ensures
+    let literals : c.join-2.result.n ≡ cap literal_ceiling (sizes.join own other).literals =
+    c.join-2.ensures
     ∙ ap (λ (k : ℕ). cap literal_ceiling (own.literals * other.clauses + k)) (mul_comm other.literals own.clauses) in
     c.stated.ensures ∙ stated-shown _ _ _ _ c.join.ensures literals
