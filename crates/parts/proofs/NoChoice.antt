@@ -15,7 +15,7 @@ pub name-all-settled : (κs : Lfts 2) (a : Dens κs name-all-kinds.ps) (r q : (r
     → name-all.Post κs a r s → name-all.Post κs a q t → (r ≡ q) × (s.1.1.0.now ≡ t.1.1.0.now)
 name-all-settled κs a r q s t e f = (e.0 ∙ sym f.0, e.1 ∙ sym f.1)
 
-pub write-all-settled : (κs : Lfts 7) (a : Dens κs write-all-kinds.ps) (r q : (res_t write-all-kinds.r κs).Denot)
-    (s t : AtExit (ended_of 7 write-all-kinds.ps write-all-kinds.r) κs)
+pub write-all-settled : (κs : Lfts 4) (a : Dens κs write-all-kinds.ps) (r q : (res_t write-all-kinds.r κs).Denot)
+    (s t : AtExit (ended_of 4 write-all-kinds.ps write-all-kinds.r) κs)
     → write-all.Post κs a r s → write-all.Post κs a q t → r ≡ q
 write-all-settled κs a r q s t e f = e ∙ sym f

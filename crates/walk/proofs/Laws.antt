@@ -4,5 +4,4 @@ pub mod Found
 pub mod Leads
 pub mod Packed
 pub mod Put
-pub mod Walks
 pub mod Writes

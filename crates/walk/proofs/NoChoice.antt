@@ -23,13 +23,13 @@ pub own-count-settled : (κs : Lfts 1) (a : Dens κs own-count-kinds.ps) (r q : 
     → own-count.Post κs a r s → own-count.Post κs a q t → r ≡ q
 own-count-settled κs a r q s t e f = e.0 ∙ sym f.0
 
-pub write-own-settled : (κs : Lfts 7) (a : Dens κs write-own-kinds.ps) (r q : (res_t write-own-kinds.r κs).Denot)
-    (s t : AtExit (ended_of 7 write-own-kinds.ps write-own-kinds.r) κs)
-    → write-own.Post κs a r s → write-own.Post κs a q t → (r ≡ q) × (s.1.1.1.1.0.now ≡ t.1.1.1.1.0.now)
+pub write-own-settled : (κs : Lfts 4) (a : Dens κs write-own-kinds.ps) (r q : (res_t write-own-kinds.r κs).Denot)
+    (s t : AtExit (ended_of 4 write-own-kinds.ps write-own-kinds.r) κs)
+    → write-own.Post κs a r s → write-own.Post κs a q t → (r ≡ q) × (s.1.0.now ≡ t.1.0.now)
 write-own-settled κs a r q s t e f = (e.place ∙ sym f.place, e.ref ∙ sym f.ref)
 
-pub lead-settled : (κs : Lfts 5) (a : Dens κs lead-kinds.ps) (r q : (res_t lead-kinds.r κs).Denot)
-    (s t : AtExit (ended_of 5 lead-kinds.ps lead-kinds.r) κs)
+pub lead-settled : (κs : Lfts 2) (a : Dens κs lead-kinds.ps) (r q : (res_t lead-kinds.r κs).Denot)
+    (s t : AtExit (ended_of 2 lead-kinds.ps lead-kinds.r) κs)
     → lead.Post κs a r s → lead.Post κs a q t → r ≡ q
 lead-settled κs a r q s t e f = e.number ∙ sym f.number
 

@@ -3,4 +3,5 @@
 
 pub mod clause;
 pub mod count;
+pub mod nodes;
 pub mod step;

@@ -1,29 +1,27 @@
 -- The parts as they are written, by the names that an array of helpers gives, are the output of the rules.
 -- Assumes nothing.
-use mathlib.Core.Path.{◌≡◌, refl, sym, ap, ◌∙◌, subst}
+use mathlib.Core.Path.{◌≡◌, refl, sym, ap, ◌∙◌}
 use mathlib.Core.Bool.{Bool, true, false, cond, not, ◌&&◌, ◌||◌}
 use mathlib.Core.List.{List, [], ◌∷◌, ◌++◌, map, append_assoc, append-nil}
-use Prim.Native.Nat.{ℕ, zero, suc, ◌+◌, ◌-◌, ◌≤◌, ◌<◌}
+use Prim.Native.Nat.{ℕ, zero, suc, ◌-◌, ◌<◌}
 use native.Mathlib.Decide.{dec_lt}
 use native.Mathlib.Omega.{arith}
 use lib.Dec.{eqb}
 use lib.ListN.{length, get_or, get_or-eq_default}
 use borrow.Author.Tests.{eq-eqb, eqb-true}
-use Rattle.answer.specs.declared.Answer.TheVariants.{Accepted}
 use Rattle.laws.specs.Lists.{up_to}
 use Rattle.laws.proofs.Arrays.{get_d_pad}
 use Rattle.laws.proofs.Upward.{length-up_to, get_d_up_to}
 use Rattle.formula.specs.Tables.{most_nodes, node_in}
 use Rattle.marks.specs.Marks.{mark_of, halves_of}
-use Rattle.marks.specs.Sets.{renamed, operator, reached, may_rename, byte_right, set_checked}
-use Rattle.marks.specs.declared.mark.Halves.{Halves}
+use Rattle.marks.specs.Sets.{renamed, operator, reached, may_rename, byte_right}
 use Rattle.formula.specs.declared.node.Node.{Node}
-use Rattle.marks.proofs.Laws.Sets.{RightSet, right_set}
+use Rattle.marks.proofs.Laws.Sets.{RightSet}
 use Rattle.clausal.specs.Places.{contents_of}
-use Rattle.clausal.specs.Clauses.{clauses, join_all, Literal, Clause, Renaming, helper_of, name_of, row_of}
-use Rattle.clausal.specs.Output.{Part, root_part, down_part, up_part, definition, definitions, parts_of, output_of}
+use Rattle.clausal.specs.Clauses.{clauses, join_all, Literal, Clause, Renaming, helper_of, name_of}
+use Rattle.clausal.specs.Output.{Part, root_part, down_part, up_part, definition, definitions, output_of}
 use Rattle.clausal.proofs.Places.{output_contents}
-use Rattle.clausal.proofs.Helpers.{helper-some, name-renamed, name-plain, renamed-inside}
+use Rattle.clausal.proofs.Helpers.{helper-some, name-renamed, name-plain}
 use Rattle.parts.specs.Inner.Helpers.{helpers_of}
 use Rattle.walk.specs.Inner.Lists.{names_in, own_list}
 use Rattle.parts.specs.Inner.Parts.{around, part_of, half, defined_by, defined_to, all_parts}

@@ -1,24 +1,26 @@
 -- The bytes of the parts: a clause with what stands around it, and clauses that are written run after run.
 -- Assumes nothing.
-use mathlib.Core.Path.{◌≡◌, refl, sym, ap, ◌∙◌, subst}
-use mathlib.Core.Bool.{Bool, true, false, cond, not}
+use mathlib.Core.Path.{◌≡◌, refl, sym, ap, ◌∙◌}
+use mathlib.Core.Bool.{Bool, true, false, not}
 use mathlib.Core.List.{List, [], ◌∷◌, ◌++◌, map, append_assoc, append-nil}
-use Prim.Native.Nat.{ℕ, zero, suc, ◌+◌, ◌*◌, ◌^◌, ◌<◌, ◌≤◌}
+use Prim.Native.Nat.{ℕ, zero, suc, ◌+◌, ◌*◌, ◌<◌, ◌≤◌}
 use native.Mathlib.Numerals.{add-one}
 use native.Mathlib.Omega.{arith}
 use lib.Dec.{eqb, leb}
-use lib.ListN.{length, get_or, take, length-append, length-map}
+use lib.ListN.{length, get_or, take, length-append}
 use lib.Seq.{take-suc}
 use borrow.Author.Tests.{eq-eqb, ne_eqb, leb-true, leb-false}
 use denote.Ref.{MutBor, at_last}
 use Rattle.laws.specs.Lists.{splice}
 use Rattle.laws.specs.Numbers.{little}
 use Rattle.clausal.specs.Clauses.{Clause, literal_bytes, clause_bytes, clauses_bytes}
-use Rattle.walk.specs.Inner.Lists.{shown_all}
+use Rattle.walk.specs.Inner.Lists.{names_in, own_at, own_clause, shown_all}
 use Rattle.clausebytes.proofs.Encoded.{clauses_append}
-use Rattle.parts.specs.Inner.Parts.{helper_literal, around}
-use Rattle.walk.specs.Inner.Written.{Fits, Put}
-use Rattle.walk.proofs.Laws.Put.{put-nothing, put-run, put_as, fits_as, fits-left, fits-right, put_both, shown_append}
+use Rattle.parts.specs.Inner.Parts.{helper_literal, around, ClauseDue}
+use Rattle.walk.specs.Inner.Written.{Fits, Due, Put}
+use Rattle.walk.specs.declared.nodes.Nodes.{Nodes}
+use Rattle.walk.specs.declared.step.Way.{Way}
+use Rattle.walk.proofs.Laws.Put.{put-run, put_as, fits_as, fits-left, fits-right, put_both, shown_append}
 
 -- the literal of a helper
 module _ (here plain : Bool) (h : ℕ) where
@@ -51,7 +53,16 @@ length-clause c =
     ap length (clause-closed c) ∙ length-append (shown_all literal_bytes c) (little 4 0) ∙ omega (arith, shown-length c)
 
 -- a clause with the literal of a helper around it, written in four runs
-module _ (h : ℕ) (sign : Bool) (c : Clause) (r : MutBor (List ℕ)) (at : ℕ) (fits : Fits (clause_bytes (around h sign c)) r.now at) where
+module _ (x : Nodes) (w : Way) (r : MutBor (List ℕ)) (at : ℕ) (due : ClauseDue x w r.now at) where
+  abbrev h : ℕ
+  h = names_in x.helpers.now w.node
+
+  abbrev sign : Bool
+  sign = w.sign
+
+  abbrev c : Clause
+  c = own_clause x w
+
   abbrev before : Clause
   before = helper_literal sign false h
 
@@ -76,17 +87,17 @@ module _ (h : ℕ) (sign : Bool) (c : Clause) (r : MutBor (List ℕ)) (at : ℕ)
       ∙ ap (λ (x : List ℕ). front ++ x) (append_assoc own behind (little 4 0))
 
   all : Fits (front ++ (own ++ (behind ++ little 4 0))) r.now at
-  all = fits_as (sym runs) fits
-
-  pub fits_front : Fits front r.now at
-  fits_front = fits-left front (own ++ (behind ++ little 4 0)) r at all
+  all = fits_as (sym runs) due.fits
 
   module _ (a : ℕ) (m : MutBor (List ℕ)) (p : Put front r at a m) where
     rest : Fits (own ++ (behind ++ little 4 0)) m.now a
     rest = fits-right front (own ++ (behind ++ little 4 0)) r at all p
 
-    pub fits-own : Fits own m.now a
+    fits-own : Fits own m.now a
     fits-own = fits-left own (behind ++ little 4 0) m a rest
+
+    pub due_own : Due x (own_at x w.node w.sign) w m.now a
+    due_own = record { writable = due.writable; inside = due.inside; has = due.has; short = due.short; fits = fits-own }
 
     module _ (b : ℕ) (n : MutBor (List ℕ)) (q : Put own m a b n) where
       last : Fits (behind ++ little 4 0) n.now b
@@ -101,9 +112,6 @@ module _ (h : ℕ) (sign : Bool) (c : Clause) (r : MutBor (List ℕ)) (at : ℕ)
 
         pub room-zero : d + 4 ≤ length o.now
         room-zero = zero-fits.room
-
-        pub end-zero : d + 4 < 2 ^ 64
-        end-zero = omega (arith, zero-fits.room, zero-fits.most)
 
         pub put-closed : (l : List ℕ) → l ≡ splice o.now d (little 4 0) → Put (clause_bytes (around h sign c)) r at (d + 4) (at_last o l)
         put-closed l e =

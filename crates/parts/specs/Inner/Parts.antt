@@ -1,14 +1,16 @@
 -- R5: the parts of the output, clause by clause, by the names as which nodes are seen; and what their writers ask.
 -- Assumes nothing: these are definitions.
-use Rattle.std.specs.Prelude.{Bool, true, false, cond, not, List, [], ◌∷◌, ◌++◌, map, ℕ, zero, suc, ◌-◌, ◌<◌, eqb, length, get_or}
+use Rattle.std.specs.Prelude.{Bool, true, false, cond, not, List, [], ◌∷◌, ◌++◌, map, ℕ, zero, suc, ◌-◌, ◌<◌, eqb, length}
 use Rattle.marks.specs.Inner.Held.{Marked}
 use Rattle.marks.specs.Marks.{mark_of, halves_of}
 use Rattle.formula.specs.Tables.{node_count, nodes_of}
 use Rattle.formula.specs.declared.node.Node.{Node}
 use Rattle.clausal.specs.Clauses.{Clause, clause_bytes, clauses_bytes}
 use Rattle.clausal.specs.Totals.{clause_ceiling}
-use Rattle.walk.specs.Inner.Lists.{names_in, own_list}
+use Rattle.walk.specs.Inner.Lists.{names_in, own_list, own_at, own_clause}
 use Rattle.walk.specs.Inner.Written.{Writable, Fits}
+use Rattle.walk.specs.declared.nodes.Nodes.{Nodes}
+use Rattle.walk.specs.declared.step.Way.{Way}
 
 -- the literal of a helper, where it stands and there is one
 abbrev pub helper_literal : Bool → Bool → ℕ → Clause
@@ -42,40 +44,38 @@ module _ (name : ℕ → ℕ) (ns : List Node) where
   all_parts = part_of (length ns - 1) true ++ defined_to (length ns)
 
 -- clause k of a part is there, the part is below the ceiling, and there is room for the clause
-pub record ClauseDue (t : List ℕ) (cs ls : List (List ℕ)) (helpers : List ℕ) (n : ℕ) (sign : Bool) (k : ℕ) (out : List ℕ)
-    (at : ℕ) : Type 0 where
-  pub writable : Writable t cs ls helpers
-  pub inside : n < node_count t
-  pub has : k < length (own_list (names_in helpers) (nodes_of t) n sign)
-  pub short : length (own_list (names_in helpers) (nodes_of t) n sign) < clause_ceiling
-  pub fits : Fits (clause_bytes (around (names_in helpers n) sign (get_or (own_list (names_in helpers) (nodes_of t) n sign) k []))) out at
+pub record ClauseDue (x : Nodes) (w : Way) (out : List ℕ) (at : ℕ) : Type 0 where
+  pub writable : Writable x
+  pub inside : w.node < node_count x.table.now
+  pub has : w.k < length (own_at x w.node w.sign)
+  pub short : length (own_at x w.node w.sign) < clause_ceiling
+  pub fits : Fits (clause_bytes (around (names_in x.helpers.now w.node) w.sign (own_clause x w))) out at
 
 -- a part, where the output has it, is below the ceiling, and there is room for it
-pub record PartDue (t : List ℕ) (cs ls : List (List ℕ)) (helpers : List ℕ) (has : Bool) (n : ℕ) (sign : Bool) (out : List ℕ)
-    (at : ℕ) : Type 0 where
-  pub writable : Writable t cs ls helpers
-  pub inside : n < node_count t
-  pub short : length (half (names_in helpers) (nodes_of t) has n sign) < clause_ceiling
-  pub fits : Fits (clauses_bytes (half (names_in helpers) (nodes_of t) has n sign)) out at
+pub record PartDue (x : Nodes) (has : Bool) (n : ℕ) (sign : Bool) (out : List ℕ) (at : ℕ) : Type 0 where
+  pub writable : Writable x
+  pub inside : n < node_count x.table.now
+  pub short : length (half (names_in x.helpers.now) (nodes_of x.table.now) has n sign) < clause_ceiling
+  pub fits : Fits (clauses_bytes (half (names_in x.helpers.now) (nodes_of x.table.now) has n sign)) out at
 
 -- a definition is below the ceiling, and there is room for it
-pub record DefinitionDue (t marks : List ℕ) (cs ls : List (List ℕ)) (helpers : List ℕ) (n : ℕ) (out : List ℕ) (at : ℕ) : Type 0 where
-  pub writable : Writable t cs ls helpers
-  pub marked : Marked t marks
-  pub inside : n < node_count t
-  pub short : length (defined_by (names_in helpers) (nodes_of t) n) < clause_ceiling
-  pub fits : Fits (clauses_bytes (defined_by (names_in helpers) (nodes_of t) n)) out at
+pub record DefinitionDue (x : Nodes) (marks : List ℕ) (n : ℕ) (out : List ℕ) (at : ℕ) : Type 0 where
+  pub writable : Writable x
+  pub marked : Marked x.table.now marks
+  pub inside : n < node_count x.table.now
+  pub short : length (defined_by (names_in x.helpers.now) (nodes_of x.table.now) n) < clause_ceiling
+  pub fits : Fits (clauses_bytes (defined_by (names_in x.helpers.now) (nodes_of x.table.now) n)) out at
 
 -- all definitions together are below the ceiling, and there is room for them
-pub record DefinitionsDue (t marks : List ℕ) (cs ls : List (List ℕ)) (helpers out : List ℕ) (at : ℕ) : Type 0 where
-  pub writable : Writable t cs ls helpers
-  pub marked : Marked t marks
-  pub short : length (defined_to (names_in helpers) (nodes_of t) (length (nodes_of t))) < clause_ceiling
-  pub fits : Fits (clauses_bytes (defined_to (names_in helpers) (nodes_of t) (length (nodes_of t)))) out at
+pub record DefinitionsDue (x : Nodes) (marks out : List ℕ) (at : ℕ) : Type 0 where
+  pub writable : Writable x
+  pub marked : Marked x.table.now marks
+  pub short : length (defined_to (names_in x.helpers.now) (nodes_of x.table.now) (length (nodes_of x.table.now))) < clause_ceiling
+  pub fits : Fits (clauses_bytes (defined_to (names_in x.helpers.now) (nodes_of x.table.now) (length (nodes_of x.table.now)))) out at
 
 -- the whole output is below the ceiling, and there is room for it
-pub record OutputDue (t marks : List ℕ) (cs ls : List (List ℕ)) (helpers out : List ℕ) : Type 0 where
-  pub writable : Writable t cs ls helpers
-  pub marked : Marked t marks
-  pub short : length (all_parts (names_in helpers) (nodes_of t)) < clause_ceiling
-  pub fits : Fits (clauses_bytes (all_parts (names_in helpers) (nodes_of t))) out 0
+pub record OutputDue (x : Nodes) (marks out : List ℕ) : Type 0 where
+  pub writable : Writable x
+  pub marked : Marked x.table.now marks
+  pub short : length (all_parts (names_in x.helpers.now) (nodes_of x.table.now)) < clause_ceiling
+  pub fits : Fits (clauses_bytes (all_parts (names_in x.helpers.now) (nodes_of x.table.now))) out 0

@@ -1,9 +1,9 @@
 -- The step to clause k of a list that is made of two leads to that clause: by subtraction, by quotient and remainder.
 -- Assumes nothing.
-use mathlib.Core.Path.{◌≡◌, refl, sym, ap, ◌∙◌, subst⁻¹}
+use mathlib.Core.Path.{◌≡◌, refl, sym, ◌∙◌, subst⁻¹}
 use mathlib.Core.Bool.{Bool, true, false, cond}
 use mathlib.Core.List.{List, [], ◌++◌}
-use Prim.Native.Nat.{ℕ, zero, suc, ◌+◌, ◌*◌, ◌-◌, ◌/◌, ◌%◌, ◌<◌, ◌≤◌}
+use Prim.Native.Nat.{ℕ, zero, suc, ◌+◌, ◌*◌, ◌-◌, ◌<◌, ◌≤◌}
 use native.Mathlib.Nat.{mul-zero, zero-mul, le-mul_of_pos_right, mul_comm}
 use native.Mathlib.Omega.{arith}
 use lib.Dec.{ltb}
@@ -16,7 +16,8 @@ use Rattle.clausal.specs.Totals.{clause_ceiling}
 use Rattle.clausal.proofs.Clauses.{clause-left, clause-right, clause-join, quotient_lt, remainder_lt}
 use Rattle.clausal.proofs.Totals.{length-join}
 use Rattle.walk.specs.Inner.Lists.{names_in, seen_list}
-use Rattle.walk.specs.Inner.Steps.{none, left_of, right_of, both_of, way, count_in, cat_step, join_step, joins_step, LeadsTo}
+use Rattle.walk.specs.Inner.Steps.{way, count_in, cat_step, join_step, joins_step, LeadsTo}
+use Rattle.walk.specs.declared.step.Step.TheVariants.{Left, Right}
 use Rattle.walk.specs.declared.step.Step.{Step}
 
 -- a product that is not 0 is at least each factor
@@ -62,11 +63,11 @@ module _ (ns : List Node) (cs : List (List ℕ)) (helpers : List ℕ)
     cat-leads h l =
         let sum = length-append xs ys in
         let f : count_in cs helpers a x ≡ length xs = counts a x ∙ omega (arith, sum) in
-        subst⁻¹ (λ (m : ℕ). Leads (get_or (xs ++ ys) k []) (cond (ltb k m) (left_of (way a x k)) (right_of (way b y (k - m))))) f
+        subst⁻¹ (λ (m : ℕ). Leads (get_or (xs ++ ys) k []) (cond (ltb k m) (Left (way a x k)) (Right (way b y (k - m))))) f
         (go sum (ltb k (length xs)) refl)
       where
         go : length (xs ++ ys) ≡ length xs + length ys → (z : Bool) → ltb k (length xs) ≡ z
-            → Leads (get_or (xs ++ ys) k []) (cond z (left_of (way a x k)) (right_of (way b y (k - length xs))))
+            → Leads (get_or (xs ++ ys) k []) (cond z (Left (way a x k)) (Right (way b y (k - length xs))))
         go sum true q =
             let low : k < length xs = ltb-true k (length xs) q in
             (record { before = ha; has = low; short = omega arith }, clause-left xs ys k low)

@@ -1,15 +1,15 @@
 -- The writer's step leads to clause k of a node's own list: for every kind and both signs.
 -- Assumes nothing.
 use mathlib.Core.Path.{◌≡◌, refl, sym, ap, ◌∙◌, subst, subst⁻¹}
-use mathlib.Core.Bool.{Bool, true, false, cond, not}
+use mathlib.Core.Bool.{Bool, true, false, cond}
 use mathlib.Core.List.{List, [], ◌∷◌}
-use Prim.Native.Nat.{ℕ, zero, suc, ◌<◌, ◌≤◌}
+use Prim.Native.Nat.{ℕ, zero, suc, ◌<◌}
 use native.Mathlib.Omega.{arith}
 use lib.Dec.{eqb}
 use lib.ListN.{length, get_or}
 use borrow.Author.Tests.{eqb-true}
 use Rattle.laws.specs.Numbers.{cap}
-use Rattle.formula.specs.Inner.Right.{FieldBelow, Right}
+use Rattle.formula.specs.Inner.Right.{FieldBelow}
 use Rattle.formula.specs.Tables.{most_nodes, node_at, node_count, node_in, nodes_of, use_of_a, use_of_b}
 use Rattle.formula.specs.declared.node.Kind.{Kind}
 use Rattle.formula.specs.declared.node.Kind.TheVariants.{False, True, Symbol, Not, And, Or, Implies, Equivalent, Unknown}
@@ -21,8 +21,10 @@ use Rattle.clausal.specs.Clauses.{Row, clauses, row_by, Clause, row_of}
 use Rattle.clausal.specs.Totals.{clause_ceiling}
 use Rattle.clausal.proofs.Rows.{seen_of, row_at}
 use Rattle.walk.specs.Inner.Lists.{signed, pair_in, names_in, own_list, seen_list}
-use Rattle.walk.specs.Inner.Steps.{none, count_in, step_by, lead_step, LeadsTo, Walkable}
+use Rattle.walk.specs.Inner.Steps.{count_in, step_by, lead_step, LeadsTo, Walkable}
 use Rattle.walk.specs.Inner.Written.{Writable}
+use Rattle.walk.specs.declared.nodes.Nodes.{Nodes}
+use Rattle.walk.specs.declared.step.Step.TheVariants.{Nothing}
 use Rattle.walk.specs.declared.step.Step.{Step}
 use Rattle.walk.proofs.Laws.Counts.{no_literals_lem, seen-count, literals_are}
 use Rattle.walk.proofs.Laws.Found.{cat-leads, join-leads, joins_leads}
@@ -65,7 +67,19 @@ module _ (ns : List Node) (cs : List (List ℕ)) (helpers : List ℕ)
   kind_leads Unknown a b true k ha hb s h l = refl
   kind_leads Unknown a b false k ha hb s h l = refl
 
-module _ (t : List ℕ) (cs ls : List (List ℕ)) (helpers : List ℕ) (ok : Writable t cs ls helpers) (n : ℕ) (inside : n < node_count t) where
+module _ (x : Nodes) (ok : Writable x) (n : ℕ) (inside : n < node_count x.table.now) where
+  abbrev t : List ℕ
+  t = x.table.now
+
+  abbrev cs : List (List ℕ)
+  cs = x.columns.now.clauses
+
+  abbrev ls : List (List ℕ)
+  ls = x.columns.now.literals
+
+  abbrev helpers : List ℕ
+  helpers = x.helpers.now
+
   abbrev ns : List Node
   ns = nodes_of t
 
@@ -103,7 +117,7 @@ module _ (t : List ℕ) (cs ls : List (List ℕ)) (helpers : List ℕ) (ok : Wri
 
       go : (b : Bool) → eqb (signed sign (pair_in ls n)) 0 ≡ b
           → LeadsTo (names_in helpers) ns n sign (get_or (own_list (names_in helpers) ns n sign) k [])
-          (cond b none (step_by (node_in ns n).kind cs helpers (node_in ns n).a (node_in ns n).b sign k))
+          (cond b Nothing (step_by (node_in ns n).kind cs helpers (node_in ns n).a (node_in ns n).b sign k))
       go true f = no_literals_lem (own_list (names_in helpers) ns n sign) k (literals_are ns cs ls helpers ok.rows n sign l (eqb-true _ _ f))
       go false f =
           subst⁻¹ (λ (r : Row (List Clause)). LeadsTo (names_in helpers) ns n sign (get_or (signed sign r) k [])

@@ -1,7 +1,7 @@
 -- Steps and ways come back from their numbers, and every step of the writer has one.
 -- Assumes nothing.
 use mathlib.Core.Path.{◌≡◌, refl, sym, ap, ◌∙◌}
-use mathlib.Core.Bool.{Bool, true, false, cond, not}
+use mathlib.Core.Bool.{Bool, true, false, cond}
 use mathlib.Core.List.{List}
 use Prim.Native.Nat.{ℕ, ◌+◌, ◌*◌, ◌-◌, ◌/◌, ◌%◌, ◌<◌, ◌≤◌}
 use native.Mathlib.Nat.{div-le_self, mod-le, mod-eq_of_lt}
@@ -14,13 +14,10 @@ use Rattle.formula.specs.declared.node.Kind.{Kind}
 use Rattle.formula.specs.declared.node.Kind.TheVariants as kind
 use Rattle.formula.specs.declared.node.Node.{Node}
 use Rattle.walk.specs.Inner.Lists.{signed, pair_in}
-use Rattle.walk.specs.Inner.Packed.{packed, way_of, Packable, packed_by, packed_step, step_of, Made}
-use Rattle.walk.specs.Inner.Packed.{nothing, literal, left, right, both, Led}
-use Rattle.walk.specs.Inner.Steps.{none, literal_of, left_of, right_of, both_of, way}
-use Rattle.walk.specs.Inner.Steps.{count_in, cat_step, join_step, joins_step, step_by, lead_step}
+use Rattle.walk.specs.Inner.Packed.{packed, way_of, Packable, packed_step, step_of, Made, Led}
+use Rattle.walk.specs.Inner.Steps.{way, count_in, cat_step, join_step, joins_step, step_by, lead_step}
 use Rattle.walk.specs.Inner.Steps.{Walkable}
-use Rattle.walk.specs.declared.step.Parts.TheVariants as parts
-use Rattle.walk.specs.declared.step.Parts.{Parts}
+use Rattle.walk.specs.declared.step.Step.TheVariants.{Nothing, Literal, Left, Right, Both}
 use Rattle.walk.specs.declared.step.Step.{Step}
 use Rattle.walk.specs.declared.step.Way.{Way}
 
@@ -38,13 +35,6 @@ packed_by_lem n k h false =
 
 pub way-packed : (w : Way) → w.node < most_nodes → way_of (packed w) ≡ w
 way-packed w h = packed_by_lem w.node w.k h w.sign
-
--- the number, by the sign
-pub packed-plain : (w : Way) → w.sign ≡ true → (w.k * 1_024 + w.node) * 2 + 1 ≡ packed w
-packed-plain w e = omega (arith, ap (λ (b : Bool). cond {A = ℕ} b 1 0) e)
-
-pub packed-negated : (w : Way) → w.sign ≡ false → (w.k * 1_024 + w.node) * 2 ≡ packed w
-packed-negated w e = omega (arith, ap (λ (b : Bool). cond {A = ℕ} b 1 0) e)
 
 bit : (b : Bool) → cond {A = ℕ} b 1 0 ≤ 1
 bit true = omega arith
@@ -77,21 +67,21 @@ second_way x y g = omega arith
 
 -- the step of a number, by its remainder
 module _ (c : ℕ) (s : Step) where
-  pub is_none : c % 8 ≡ 0 → s ≡ none → s ≡ step_of c
-  is_none e f = f ∙ sym (tests c 0 none _ e)
+  pub is_none : c % 8 ≡ 0 → s ≡ Nothing → s ≡ step_of c
+  is_none e f = f ∙ sym (tests c 0 Nothing _ e)
 
-  pub is-literal : c % 8 ≡ 1 → s ≡ literal_of (c / 8 % 4_294_967_296) → s ≡ step_of c
+  pub is-literal : c % 8 ≡ 1 → s ≡ Literal (c / 8 % 4_294_967_296) → s ≡ step_of c
   is-literal e f = f ∙ sym (skips c 0 _ _ (λ z. omega arith) ∙ tests c 1 _ _ e)
 
-  pub is-left : c % 8 ≡ 2 → s ≡ left_of (way_of (c / 8 % 134_217_728)) → s ≡ step_of c
+  pub is-left : c % 8 ≡ 2 → s ≡ Left (way_of (c / 8 % 134_217_728)) → s ≡ step_of c
   is-left e f = f ∙ sym (skips c 0 _ _ (λ z. omega arith) ∙ skips c 1 _ _ (λ z. omega arith) ∙ tests c 2 _ _ e)
 
-  pub is_right : c % 8 ≡ 3 → s ≡ right_of (way_of (c / 8 % 134_217_728)) → s ≡ step_of c
+  pub is_right : c % 8 ≡ 3 → s ≡ Right (way_of (c / 8 % 134_217_728)) → s ≡ step_of c
   is_right e f =
       f ∙ sym (skips c 0 _ _ (λ z. omega arith) ∙ skips c 1 _ _ (λ z. omega arith) ∙ skips c 2 _ _ (λ z. omega arith) ∙ tests c 3 _ _ e)
 
   pub is-both : ¬ (c % 8 ≡ 0) → ¬ (c % 8 ≡ 1) → ¬ (c % 8 ≡ 2) → ¬ (c % 8 ≡ 3)
-      → s ≡ both_of (way_of (c / 8 / 134_217_728 % 134_217_728)) (way_of (c / 8 % 134_217_728)) → s ≡ step_of c
+      → s ≡ Both (way_of (c / 8 / 134_217_728 % 134_217_728)) (way_of (c / 8 % 134_217_728)) → s ≡ step_of c
   is-both a b d e f = f ∙ sym (skips c 0 _ _ a ∙ skips c 1 _ _ b ∙ skips c 2 _ _ d ∙ skips c 3 _ _ e)
 
 -- a number that ends in r
@@ -99,46 +89,47 @@ module _ (x r n : ℕ) (h : r < 8) (d : ¬ (r ≡ n)) where
   ends_else : ¬ ((x * 8 + r) % 8 ≡ n)
   ends_else e = d (sym (remainder x r h) ∙ e)
 
-pub made_back : {s : Step} → Made s → step_of (packed_step s) ≡ s
-made_back nothing = refl
-made_back (literal {x} h) =
-    sym (is-literal (x * 8 + 1) (literal_of x) (remainder x 1 (omega arith))
-    (ap literal_of (sym (ap (λ (n : ℕ). n % 4_294_967_296) (behind x 1 (omega arith)) ∙ mod-eq_of_lt h))))
-made_back (left {w} p) =
+pub made_back : (s : Step) → Made s → step_of (packed_step s) ≡ s
+made_back Nothing m = refl
+made_back (Literal x) h =
+    sym (is-literal (x * 8 + 1) (Literal x) (remainder x 1 (omega arith))
+    (ap Literal (sym (ap (λ (n : ℕ). n % 4_294_967_296) (behind x 1 (omega arith)) ∙ mod-eq_of_lt h))))
+made_back (Left w) p =
     let number = ap (λ (n : ℕ). n % 134_217_728) (behind (packed w) 2 (omega arith)) ∙ mod-eq_of_lt (packed-few w p) in
-    sym (is-left (packed w * 8 + 2) (left_of w) (remainder (packed w) 2 (omega arith))
-    (ap left_of (sym (ap way_of number ∙ way-packed w p.node))))
-made_back (right {w} p) =
+    sym (is-left (packed w * 8 + 2) (Left w) (remainder (packed w) 2 (omega arith))
+    (ap Left (sym (ap way_of number ∙ way-packed w p.node))))
+made_back (Right w) p =
     let number = ap (λ (n : ℕ). n % 134_217_728) (behind (packed w) 3 (omega arith)) ∙ mod-eq_of_lt (packed-few w p) in
-    sym (is_right (packed w * 8 + 3) (right_of w) (remainder (packed w) 3 (omega arith))
-    (ap right_of (sym (ap way_of number ∙ way-packed w p.node))))
-made_back (both {w} {x} p q) =
+    sym (is_right (packed w * 8 + 3) (Right w) (remainder (packed w) 3 (omega arith))
+    (ap Right (sym (ap way_of number ∙ way-packed w p.node))))
+made_back (Both w x) (p, q) =
     let whole = behind (packed w * 134_217_728 + packed x) 4 (omega arith) in
     let one = ap (λ (n : ℕ). n / 134_217_728 % 134_217_728) whole ∙ first_way (packed w) (packed x) (packed-few w p) (packed-few x q) in
     let two = ap (λ (n : ℕ). n % 134_217_728) whole ∙ second_way (packed w) (packed x) (packed-few x q) in
     let code = packed w * 134_217_728 + packed x in
-    sym (is-both (code * 8 + 4) (both_of w x)
+    sym (is-both (code * 8 + 4) (Both w x)
     (ends_else code 4 0 (omega arith) (λ z. omega arith)) (ends_else code 4 1 (omega arith) (λ z. omega arith))
     (ends_else code 4 2 (omega arith) (λ z. omega arith)) (ends_else code 4 3 (omega arith) (λ z. omega arith))
-    (λ i. both_of (sym (ap way_of one ∙ way-packed w p.node) i) (sym (ap way_of two ∙ way-packed x q.node) i)))
+    (λ i. Both (sym (ap way_of one ∙ way-packed w p.node) i) (sym (ap way_of two ∙ way-packed x q.node) i)))
 
 -- the steps of the rules
 module _ (cs : List (List ℕ)) (helpers : List ℕ) where
   made_cat : (a b k : ℕ) (x y : Bool) → a < most_nodes → b < most_nodes → k < 65_536 → Made (cat_step cs helpers a x b y k)
   made_cat a b k x y h g l = go (ltb k (count_in cs helpers a x))
     where
-      go : (z : Bool) → Made (cond z (left_of (way a x k)) (right_of (way b y (k - count_in cs helpers a x))))
-      go true = left (record { node = h; k = l })
-      go false = right {w = way b y (k - count_in cs helpers a x)} (record { node = g; k = omega arith })
+      go : (z : Bool) → Made (cond z (Left (way a x k)) (Right (way b y (k - count_in cs helpers a x))))
+      go true = record { node = h; k = l }
+      go false = record { node = g; k = omega arith }
 
   made_join : (a b k : ℕ) (x y : Bool) → a < most_nodes → b < most_nodes → k < 65_536 → Made (join_step cs helpers a x b y k)
   made_join a b k x y h g l = go (eqb (count_in cs helpers b y) 0)
     where
-      go : (z : Bool) → Made (cond z none (both_of (way a x (k / count_in cs helpers b y)) (way b y (k % count_in cs helpers b y))))
-      go true = nothing
-      go false = both {w = way a x (k / count_in cs helpers b y)} {x = way b y (k % count_in cs helpers b y)}
-          (record { node = h; k = omega (arith, div-le_self k (count_in cs helpers b y)) })
-          (record { node = g; k = omega (arith, mod-le k (count_in cs helpers b y)) })
+      go : (z : Bool) → Made (cond z Nothing (Both (way a x (k / count_in cs helpers b y)) (way b y (k % count_in cs helpers b y))))
+      go true = tt
+      go false = (
+        record { node = h; k = omega (arith, div-le_self k (count_in cs helpers b y)) },
+        record { node = g; k = omega (arith, mod-le k (count_in cs helpers b y)) },
+      )
 
   made_joins : (a b k : ℕ) (sign : Bool) → a < most_nodes → b < most_nodes → k < 65_536 → Made (joins_step cs helpers a b sign k)
   made_joins a b k sign h g l = go (ltb k first) sign
@@ -155,10 +146,10 @@ module _ (cs : List (List ℕ)) (helpers : List ℕ) where
 
   made_kind : (c : Kind) (a b k : ℕ) (sign : Bool) → FieldBelow most_nodes (use_of_a c) a → FieldBelow most_nodes (use_of_b c) b
       → (c ≡ kind.Symbol → a < 4_294_967_296) → k < 65_536 → Made (step_by c cs helpers a b sign k)
-  made_kind kind.False a b k sign ha hb v l = nothing
-  made_kind kind.True a b k sign ha hb v l = nothing
-  made_kind kind.Symbol a b k sign ha hb v l = literal (v refl)
-  made_kind kind.Not a b k sign ha hb v l = left (record { node = ha; k = l })
+  made_kind kind.False a b k sign ha hb v l = tt
+  made_kind kind.True a b k sign ha hb v l = tt
+  made_kind kind.Symbol a b k sign ha hb v l = v refl
+  made_kind kind.Not a b k sign ha hb v l = record { node = ha; k = l }
   made_kind kind.And a b k true ha hb v l = made_cat a b k true true ha hb l
   made_kind kind.And a b k false ha hb v l = made_join a b k false false ha hb l
   made_kind kind.Or a b k true ha hb v l = made_join a b k true true ha hb l
@@ -166,44 +157,18 @@ module _ (cs : List (List ℕ)) (helpers : List ℕ) where
   made_kind kind.Implies a b k true ha hb v l = made_join a b k false true ha hb l
   made_kind kind.Implies a b k false ha hb v l = made_cat a b k true false ha hb l
   made_kind kind.Equivalent a b k sign ha hb v l = made_joins a b k sign ha hb l
-  made_kind kind.Unknown a b k sign ha hb v l = nothing
+  made_kind kind.Unknown a b k sign ha hb v l = tt
 
   pub made_lead : (m : Node) (ls : List (List ℕ)) (n k : ℕ) (sign : Bool) → Walkable m → k < 65_536
       → Made (lead_step m cs ls helpers n sign k)
   made_lead m ls n k sign w l = go (eqb (signed sign (pair_in ls n)) 0)
     where
-      go : (z : Bool) → Made (cond z none (step_by m.kind cs helpers m.a m.b sign k))
-      go true = nothing
+      go : (z : Bool) → Made (cond z Nothing (step_by m.kind cs helpers m.a m.b sign k))
+      go true = tt
       go false = made_kind m.kind m.a m.b k sign w.children.0 w.children.1 (λ e. omega (arith, (w.symbol e).1)) l
 
 -- a step that was packed
 pub led : (s x : Step) (code : ℕ) → x ≡ s → code ≡ packed_step x → Made s → Led s code
 led s x code e f m =
     let number = f ∙ ap packed_step e in
-    record { number = number; back = ap step_of number ∙ made_back m }
-
--- the ways of a step, by what its clause is made of
-pub left-fits : {s : Step} → Made s → s.parts ≡ parts.Left → Packable s.left
-left-fits nothing e = let z : ◌≡◌ {A = ℕ} 0 1 = cc in absurd (omega arith)
-left-fits (literal h) e = let z : ◌≡◌ {A = ℕ} 0 1 = cc in absurd (omega arith)
-left-fits (left p) e = p
-left-fits (right p) e = let z : ◌≡◌ {A = ℕ} 0 1 = cc in absurd (omega arith)
-left-fits (both p q) e = let z : ◌≡◌ {A = ℕ} 0 1 = cc in absurd (omega arith)
-
-pub right-fits : {s : Step} → Made s → s.parts ≡ parts.Right → Packable s.right
-right-fits nothing e = let z : ◌≡◌ {A = ℕ} 0 1 = cc in absurd (omega arith)
-right-fits (literal h) e = let z : ◌≡◌ {A = ℕ} 0 1 = cc in absurd (omega arith)
-right-fits (left p) e = let z : ◌≡◌ {A = ℕ} 0 1 = cc in absurd (omega arith)
-right-fits (right p) e = p
-right-fits (both p q) e = let z : ◌≡◌ {A = ℕ} 0 1 = cc in absurd (omega arith)
-
-pub both-fit : {s : Step} → Made s → s.parts ≡ parts.Both → Packable s.left × Packable s.right
-both-fit nothing e = let z : ◌≡◌ {A = ℕ} 0 1 = cc in absurd (omega arith)
-both-fit (literal h) e = let z : ◌≡◌ {A = ℕ} 0 1 = cc in absurd (omega arith)
-both-fit (left p) e = let z : ◌≡◌ {A = ℕ} 0 1 = cc in absurd (omega arith)
-both-fit (right p) e = let z : ◌≡◌ {A = ℕ} 0 1 = cc in absurd (omega arith)
-both-fit (both p q) e = (p, q)
-
--- the number of a step, by its parts
-pub packed_as : (s : Step) (p : Parts) (c : ℕ) → s.parts ≡ p → c ≡ packed_by p s → c ≡ packed_step s
-packed_as s p c e f = f ∙ ap (λ (x : Parts). packed_by x s) (sym e)
+    record { number = number; back = ap step_of number ∙ made_back s m }

@@ -1,24 +1,24 @@
 -- The writer of a clause: what it may write next, and what it leaves, from what its calls leave.
 -- Assumes nothing.
-use mathlib.Core.Path.{◌≡◌, refl, sym, ap, ◌∙◌, subst}
+use mathlib.Core.Path.{◌≡◌, sym, ap, ◌∙◌, subst}
 use mathlib.Core.Bool.{Bool, true, false, cond}
 use mathlib.Core.List.{List, [], ◌∷◌, ◌++◌}
-use Prim.Native.Nat.{ℕ, zero, suc, ◌+◌, ◌^◌, ◌<◌, ◌≤◌}
+use Prim.Native.Nat.{ℕ, ◌+◌, ◌^◌, ◌<◌, ◌≤◌}
 use native.Mathlib.Omega.{arith}
-use lib.Dec.{eqb}
 use lib.ListN.{length, get_or}
 use borrow.Author.Tests.{eq-eqb, ne_eqb}
 use denote.Ref.{MutBor, at_last}
 use Rattle.laws.specs.Lists.{splice}
 use Rattle.laws.specs.Numbers.{little}
 use Rattle.laws.proofs.Bytes.{length-little}
-use Rattle.formula.specs.Tables.{most_nodes, node_at, node_count, nodes_of}
+use Rattle.formula.specs.Tables.{node_at, nodes_of}
 use Rattle.formula.specs.declared.node.Node.{Node}
 use Rattle.clausal.specs.Clauses.{Row, clauses, unit_row, Literal, Clause, word_of, literal_bytes, row_of}
-use Rattle.walk.specs.Inner.Lists.{signed, names_in, own_list, seen_list, shown_all}
-use Rattle.walk.specs.Inner.Steps.{Leadable, Lower, LeadsBy, LeadsTo, lead_step, way_clause}
+use Rattle.walk.specs.Inner.Lists.{signed, names_in, own_list, own_at, own_clause, seen_list, seen_at, seen_clause, shown_all}
+use Rattle.walk.specs.Inner.Packed.{step_of, Led}
+use Rattle.walk.specs.Inner.Steps.{Leadable, Lower, LeadsTo, lead_step}
 use Rattle.walk.specs.Inner.Written.{Fits, Due, Put}
-use Rattle.walk.specs.declared.step.Parts.{Parts}
+use Rattle.walk.specs.declared.nodes.Nodes.{Nodes}
 use Rattle.walk.specs.declared.step.Step.{Step}
 use Rattle.walk.specs.declared.step.Way.{Way}
 use Rattle.walk.proofs.Laws.Leads.{walkable, leads, only}
@@ -65,49 +65,35 @@ module _ (name : ℕ → ℕ) (ns : List Node) (n : ℕ) where
       go true g = only (record { plain = true; variable = name n } ∷ []) k g
       go false g = only (record { plain = false; variable = name n } ∷ []) k g
 
-module _ (t : List ℕ) (cs ls : List (List ℕ)) (helpers : List ℕ) (n : ℕ) (sign : Bool) (k : ℕ) (r : MutBor (List ℕ)) (at : ℕ) where
+module _ (x : Nodes) (w : Way) (r : MutBor (List ℕ)) (at : ℕ) where
   abbrev name : ℕ → ℕ
-  name = names_in helpers
+  name = names_in x.helpers.now
 
   abbrev ns : List Node
-  ns = nodes_of t
+  ns = nodes_of x.table.now
 
-  -- as a child
-  module _ (d : Due t cs ls helpers (seen_list name ns n sign) n k r.now at) where
-    pub due_own : name n ≡ 0 → Due t cs ls helpers (own_list name ns n sign) n k r.now at
-    due_own e = subst (λ (list : List Clause). Due t cs ls helpers list n k r.now at) (seen-own name ns n sign e) d
-
-    pub put-own : (next : ℕ) (o : MutBor (List ℕ)) → name n ≡ 0 → Put (shown_all literal_bytes (get_or (own_list name ns n sign) k [])) r at next o
-        → Put (shown_all literal_bytes (get_or (seen_list name ns n sign) k [])) r at next o
-    put-own next o e p = put_as (ap (λ (list : List Clause). shown_all literal_bytes (get_or list k [])) (seen-own name ns n sign e)) p
-
-    pub due_helper : ¬ (name n ≡ 0) → get_or (seen_list name ns n sign) k [] ≡ record { plain = sign; variable = name n } ∷ []
-    due_helper e = seen-helper name ns n sign k e d.has
-
-  -- its own list
-  module _ (d : Due t cs ls helpers (own_list name ns n sign) n k r.now at) where
+  -- a clause of its own list
+  module _ (d : Due x (own_at x w.node w.sign) w r.now at) where
     abbrev clause : Clause
-    clause = get_or (own_list name ns n sign) k []
+    clause = own_clause x w
 
-    pub due_lead : Leadable t n
+    pub due_lead : Leadable x.table.now w.node
     due_lead = record {
       size = d.writable.right.size;
       inside = d.inside;
-      walkable = walkable t cs ls helpers d.writable n d.inside;
+      walkable = walkable x d.writable w.node d.inside;
     }
 
-    -- what the step says, by its parts
-    pub due_leads : (step : Step) (parts : Parts) → step ≡ lead_step (node_at t n) cs ls helpers n sign k → step.parts ≡ parts
-        → LeadsBy name ns parts n sign clause step
-    due_leads step parts e f =
-        subst (λ (p : Parts). LeadsBy name ns p n sign clause step) f
-        (leads t cs ls helpers d.writable n d.inside sign k step d.has d.short e)
+    -- what the step of a number says
+    pub due_leads : (step : Step) (code : ℕ) → step ≡ step_of code
+        → Led (lead_step (node_at x.table.now w.node) x.columns.now.clauses x.columns.now.literals x.helpers.now w.node w.sign w.k) code
+        → LeadsTo name ns w.node w.sign clause step
+    due_leads step code e f = leads x d.writable w.node d.inside w.sign w.k step d.has d.short (e ∙ f.back)
 
     -- a child's clause may be written where there is room
-    pub due_lower : (w : Way) (o : MutBor (List ℕ)) (next : ℕ) → Lower name ns n w
-        → Fits (shown_all literal_bytes (way_clause name ns w)) o.now next
-        → Due t cs ls helpers (seen_list name ns w.node w.sign) w.node w.k o.now next
-    due_lower w o next l fits = record {
+    pub due_lower : (v : Way) (o : MutBor (List ℕ)) (next : ℕ) → Lower name ns w.node v
+        → Fits (shown_all literal_bytes (seen_clause x v)) o.now next → Due x (seen_at x v.node v.sign) v o.now next
+    due_lower v o next l fits = record {
       writable = d.writable;
       inside = omega (arith, l.before, d.inside);
       has = l.has;
@@ -119,34 +105,34 @@ module _ (t : List ℕ) (cs ls : List (List ℕ)) (helpers : List ℕ) (n : ℕ)
     put-none e = put_as (ap (shown_all literal_bytes) e) (put-nothing r at)
 
     -- one child's clause
-    module _ (w : Way) (l : Lower name ns n w) (e : clause ≡ way_clause name ns w) where
-      pub due_one : Due t cs ls helpers (seen_list name ns w.node w.sign) w.node w.k r.now at
-      due_one = due_lower w r at l (fits_as (ap (shown_all literal_bytes) (sym e)) d.fits)
+    module _ (v : Way) (l : Lower name ns w.node v) (e : clause ≡ seen_clause x v) where
+      pub due_one : Due x (seen_at x v.node v.sign) v r.now at
+      due_one = due_lower v r at l (fits_as (ap (shown_all literal_bytes) (sym e)) d.fits)
 
-      pub put_one : (next : ℕ) (o : MutBor (List ℕ)) → Put (shown_all literal_bytes (way_clause name ns w)) r at next o
+      pub put_one : (next : ℕ) (o : MutBor (List ℕ)) → Put (shown_all literal_bytes (seen_clause x v)) r at next o
           → Put (shown_all literal_bytes clause) r at next o
       put_one next o p = put_as (ap (shown_all literal_bytes) e) p
 
     -- a clause of each child
-    module _ (w x : Way) (l : Lower name ns n w) (m : Lower name ns n x) (e : clause ≡ way_clause name ns w ++ way_clause name ns x) where
+    module _ (u v : Way) (l : Lower name ns w.node u) (m : Lower name ns w.node v) (e : clause ≡ seen_clause x u ++ seen_clause x v) where
       abbrev left : List ℕ
-      left = shown_all literal_bytes (way_clause name ns w)
+      left = shown_all literal_bytes (seen_clause x u)
 
       abbrev right : List ℕ
-      right = shown_all literal_bytes (way_clause name ns x)
+      right = shown_all literal_bytes (seen_clause x v)
 
       both : shown_all literal_bytes clause ≡ left ++ right
-      both = ap (shown_all literal_bytes) e ∙ shown_append literal_bytes (way_clause name ns w) (way_clause name ns x)
+      both = ap (shown_all literal_bytes) e ∙ shown_append literal_bytes (seen_clause x u) (seen_clause x v)
 
       fits : Fits (left ++ right) r.now at
       fits = fits_as (sym both) d.fits
 
-      pub due_left : Due t cs ls helpers (seen_list name ns w.node w.sign) w.node w.k r.now at
-      due_left = due_lower w r at l (fits-left left right r at fits)
+      pub due_left : Due x (seen_at x u.node u.sign) u r.now at
+      due_left = due_lower u r at l (fits-left left right r at fits)
 
       module _ (next : ℕ) (o : MutBor (List ℕ)) (p : Put left r at next o) where
-        pub due_right : Due t cs ls helpers (seen_list name ns x.node x.sign) x.node x.k o.now next
-        due_right = due_lower x o next m (fits-right left right r at fits p)
+        pub due_right : Due x (seen_at x v.node v.sign) v o.now next
+        due_right = due_lower v o next m (fits-right left right r at fits p)
 
         pub put_two : (last : ℕ) (q : MutBor (List ℕ)) → Put right o next last q → Put (shown_all literal_bytes clause) r at last q
         put_two last q f = put_as both (put_both left right r at fits p f)

@@ -1,9 +1,12 @@
 -- R4: the clause lists that the writer goes through, by sign. `name` says as which helper each node is seen, 0 for none.
 -- Assumes nothing: these are definitions.
 use Rattle.std.specs.Prelude.{Bool, true, false, List, [], ◌∷◌, ◌++◌, ℕ, get_or}
+use Rattle.formula.specs.Tables.{nodes_of}
 use Rattle.formula.specs.declared.node.Node.{Node}
 use Rattle.clausal.specs.Clauses.{Row, clauses, Literal, Clause, seen, row_of}
 use Rattle.totals.specs.Inner.Columns.{cell}
+use Rattle.walk.specs.declared.nodes.Nodes.{Nodes}
+use Rattle.walk.specs.declared.step.Way.{Way}
 
 -- P for a positive sign, N for a negative one
 abbrev pub signed : {C : Type 0} → Bool → Row C → C
@@ -25,6 +28,19 @@ module _ (name : ℕ → ℕ) (ns : List Node) where
 
   abbrev pub seen_list : ℕ → Bool → List Clause
   seen_list n sign = signed sign (seen clauses name n (row_of clauses name ns n))
+
+-- the same of nodes that are lent, and clause k of these lists
+abbrev pub own_at : Nodes → ℕ → Bool → List Clause
+own_at x n sign = own_list (names_in x.helpers.now) (nodes_of x.table.now) n sign
+
+abbrev pub seen_at : Nodes → ℕ → Bool → List Clause
+seen_at x n sign = seen_list (names_in x.helpers.now) (nodes_of x.table.now) n sign
+
+abbrev pub own_clause : Nodes → Way → Clause
+own_clause x w = get_or (own_at x w.node w.sign) w.k []
+
+abbrev pub seen_clause : Nodes → Way → Clause
+seen_clause x w = get_or (seen_at x w.node w.sign) w.k []
 
 -- a clause, literal by literal, by what is shown of each
 abbrev pub shown_all : (Literal → List ℕ) → Clause → List ℕ

@@ -9,30 +9,11 @@ use Rattle.formula.specs.declared.node.Node.{Node}
 use Rattle.clausal.specs.Clauses.{Clause}
 use Rattle.clausal.specs.Totals.{clause_ceiling}
 use Rattle.walk.specs.Inner.Lists.{signed, pair_in, seen_list}
-use Rattle.walk.specs.declared.step.Parts.TheVariants.{Nothing, Literal, Left, Right, Both}
-use Rattle.walk.specs.declared.step.Parts.{Parts}
+use Rattle.walk.specs.declared.step.Step.TheVariants.{Nothing, Literal, Left, Right, Both}
 use Rattle.walk.specs.declared.step.Step.{Step}
 use Rattle.walk.specs.declared.step.Way.{Way}
 
--- the five steps; what a step does not use is not looked at
-abbrev pub nowhere : Way
-nowhere = record { node = 0; sign = false; k = 0 }
-
-abbrev pub none : Step
-none = record { parts = Nothing; variable = 0; left = nowhere; right = nowhere }
-
-abbrev pub literal_of : ℕ → Step
-literal_of x = record { parts = Literal; variable = x; left = nowhere; right = nowhere }
-
-abbrev pub left_of : Way → Step
-left_of w = record { parts = Left; variable = 0; left = w; right = w }
-
-abbrev pub right_of : Way → Step
-right_of w = record { parts = Right; variable = 0; left = w; right = w }
-
-abbrev pub both_of : Way → Way → Step
-both_of w x = record { parts = Both; variable = 0; left = w; right = x }
-
+-- clause k of the list of node n for a sign
 abbrev pub way : ℕ → Bool → ℕ → Way
 way n sign k = record { node = n; sign = sign; k = k }
 
@@ -44,13 +25,13 @@ module _ (cs : List (List ℕ)) (helpers : List ℕ) where
   -- R4.7: the step to clause k of one list followed by another
   abbrev pub cat_step : ℕ → Bool → ℕ → Bool → ℕ → Step
   cat_step a x b y k =
-      cond (ltb k (count_in cs helpers a x)) (left_of (way a x k)) (right_of (way b y (k - count_in cs helpers a x)))
+      cond (ltb k (count_in cs helpers a x)) (Left (way a x k)) (Right (way b y (k - count_in cs helpers a x)))
 
   -- R4.8: the step to clause k of a join
   abbrev pub join_step : ℕ → Bool → ℕ → Bool → ℕ → Step
   join_step a x b y k =
-      cond (eqb (count_in cs helpers b y) 0) none
-      (both_of (way a x (k / count_in cs helpers b y)) (way b y (k % count_in cs helpers b y)))
+      cond (eqb (count_in cs helpers b y) 0) Nothing
+      (Both (way a x (k / count_in cs helpers b y)) (way b y (k % count_in cs helpers b y)))
 
   -- R4.16: the step to clause k of two joins, one behind the other
   abbrev pub joins_step : ℕ → ℕ → Bool → ℕ → Step
@@ -63,20 +44,20 @@ module _ (cs : List (List ℕ)) (helpers : List ℕ) where
 
 -- R4.9 to R4.16: the step to clause k of a node's own list for a sign, by its kind
 abbrev pub step_by : Kind → List (List ℕ) → List ℕ → ℕ → ℕ → Bool → ℕ → Step
-step_by kind.False cs helpers a b sign k = none
-step_by kind.True cs helpers a b sign k = none
-step_by kind.Symbol cs helpers a b sign k = literal_of a
-step_by kind.Not cs helpers a b sign k = left_of (way a (not sign) k)
+step_by kind.False cs helpers a b sign k = Nothing
+step_by kind.True cs helpers a b sign k = Nothing
+step_by kind.Symbol cs helpers a b sign k = Literal a
+step_by kind.Not cs helpers a b sign k = Left (way a (not sign) k)
 step_by kind.And cs helpers a b sign k = cond sign (cat_step cs helpers a true b true k) (join_step cs helpers a false b false k)
 step_by kind.Or cs helpers a b sign k = cond sign (join_step cs helpers a true b true k) (cat_step cs helpers a false b false k)
 step_by kind.Implies cs helpers a b sign k = cond sign (join_step cs helpers a false b true k) (cat_step cs helpers a true b false k)
 step_by kind.Equivalent cs helpers a b sign k = joins_step cs helpers a b sign k
-step_by kind.Unknown cs helpers a b sign k = none
+step_by kind.Unknown cs helpers a b sign k = Nothing
 
 -- the step of the writer: nothing where the literal total says so, else by the kind
 abbrev pub lead_step : Node → List (List ℕ) → List (List ℕ) → List ℕ → ℕ → Bool → ℕ → Step
 lead_step m cs ls helpers n sign k =
-    cond (eqb (signed sign (pair_in ls n)) 0) none (step_by m.kind cs helpers m.a m.b sign k)
+    cond (eqb (signed sign (pair_in ls n)) 0) Nothing (step_by m.kind cs helpers m.a m.b sign k)
 
 -- a node whose children have places in the arrays, and whose symbol is an option
 pub record Walkable (m : Node) : Type 0 where
@@ -101,12 +82,9 @@ module _ (name : ℕ → ℕ) (ns : List Node) where
     pub short : length (seen_list name ns w.node w.sign) < clause_ceiling
 
   -- what a step says of a clause of node n for a sign
-  abbrev pub LeadsBy : Parts → ℕ → Bool → Clause → Step → Type 0
-  LeadsBy Nothing n sign c s = c ≡ []
-  LeadsBy Literal n sign c s = (0 < s.variable) × (c ≡ record { plain = sign; variable = s.variable } ∷ [])
-  LeadsBy Left n sign c s = Lower n s.left × (c ≡ way_clause s.left)
-  LeadsBy Right n sign c s = Lower n s.right × (c ≡ way_clause s.right)
-  LeadsBy Both n sign c s = Lower n s.left × Lower n s.right × (c ≡ way_clause s.left ++ way_clause s.right)
-
   abbrev pub LeadsTo : ℕ → Bool → Clause → Step → Type 0
-  LeadsTo n sign c s = LeadsBy s.parts n sign c s
+  LeadsTo n sign c Nothing = c ≡ []
+  LeadsTo n sign c (Literal x) = (0 < x) × (c ≡ record { plain = sign; variable = x } ∷ [])
+  LeadsTo n sign c (Left w) = Lower n w × (c ≡ way_clause w)
+  LeadsTo n sign c (Right w) = Lower n w × (c ≡ way_clause w)
+  LeadsTo n sign c (Both w x) = Lower n w × Lower n x × (c ≡ way_clause w ++ way_clause x)

@@ -7,14 +7,16 @@ use Rattle.walk.proofs.step.lead.Goals as goal
 
 pub pack-requires : goal.pack-requires
 pack-requires c =
-    let a = c.args in
+    let nodes = c.args.nodes.now in
+    let way = c.args.way in
     subst⁻¹ Made c.lead_step.ensures
-    (made_lead a.clauses.now a.helpers.now (node_at a.table.now.now a.node) a.literals.now a.node a.k a.sign
+    (made_lead nodes.columns.now.clauses nodes.helpers.now (node_at nodes.table.now way.node) nodes.columns.now.literals way.node way.k way.sign
     c.requires.leadable.walkable c.requires.k_bound)
 
 pub returns : goal.returns
 returns c =
-    let a = c.args in
+    let nodes = c.args.nodes.now in
+    let way = c.args.way in
     led _ _ _ c.lead_step.ensures c.pack.ensures
-    (made_lead a.clauses.now a.helpers.now (node_at a.table.now.now a.node) a.literals.now a.node a.k a.sign
+    (made_lead nodes.columns.now.clauses nodes.helpers.now (node_at nodes.table.now way.node) nodes.columns.now.literals way.node way.k way.sign
     c.requires.leadable.walkable c.requires.k_bound)
