@@ -23,40 +23,19 @@ pub enum Phase {
 pub fn ends_in(phase: Phase) -> bool
     ensures { result ≡ ends_in phase }
 {
-    match phase {
-        Phase::Between => true,
-        Phase::Closed => true,
-        Phase::Sign => false,
-        Phase::Plain => false,
-        Phase::Negated => false,
-        Phase::Dead => false,
-    }
+    matches!(phase, Phase::Between | Phase::Closed)
 }
 
 // Whether no accepted text begins so.
 pub fn is_dead(phase: Phase) -> bool
     ensures { result ≡ is_dead phase }
 {
-    match phase {
-        Phase::Between => false,
-        Phase::Closed => false,
-        Phase::Sign => false,
-        Phase::Plain => false,
-        Phase::Negated => false,
-        Phase::Dead => true,
-    }
+    matches!(phase, Phase::Dead)
 }
 
 // Whether the reader is in the digits of a literal.
 pub fn is_number(phase: Phase) -> bool
     ensures { result ≡ is_number phase }
 {
-    match phase {
-        Phase::Between => false,
-        Phase::Closed => false,
-        Phase::Sign => false,
-        Phase::Plain => true,
-        Phase::Negated => true,
-        Phase::Dead => false,
-    }
+    matches!(phase, Phase::Plain | Phase::Negated)
 }

@@ -45,27 +45,21 @@ impl State {
     pub fn is_accepted(self) -> bool
         ensures { result ≡ accepts self }
     {
-        let phase = self.phase;
-        if ends_in(phase) {
-            return self.clauses == self.declared;
-        }
-        false
+        ends_in(self.phase) && self.clauses == self.declared
     }
 
     // Whether no accepted text begins so.
     pub fn is_dead(self) -> bool
         ensures { result ≡ is_dead self.phase }
     {
-        let phase = self.phase;
-        is_dead(phase)
+        is_dead(self.phase)
     }
 
     // Whether it is in the digits of a literal.
     pub fn is_number(self) -> bool
         ensures { result ≡ is_number self.phase }
     {
-        let phase = self.phase;
-        is_number(phase)
+        is_number(self.phase)
     }
 
     // One byte on, to a phase, with what is read of a literal there.
@@ -77,10 +71,7 @@ impl State {
             phase,
             place: self.place + 1,
             value,
-            variables: self.variables,
-            declared: self.declared,
-            clauses: self.clauses,
-            literals: self.literals,
+            ..self
         }
     }
 
@@ -90,12 +81,7 @@ impl State {
     {
         State {
             phase: Phase::Dead,
-            place: self.place,
-            value: self.value,
-            variables: self.variables,
-            declared: self.declared,
-            clauses: self.clauses,
-            literals: self.literals,
+            ..self
         }
     }
 
@@ -120,10 +106,8 @@ impl State {
             phase: Phase::Closed,
             place: self.place + 1,
             value: 0,
-            variables: self.variables,
-            declared: self.declared,
             clauses: clauses + 1,
-            literals: self.literals,
+            ..self
         }
     }
 
@@ -132,21 +116,15 @@ impl State {
         requires { self.place < last_place }
         ensures { result ≡ open_of self phase value }
     {
-        let literals = self.literals;
-        if self.clauses >= self.declared {
-            return self.dead();
-        }
-        if literals >= MOST_LITERALS {
+        if self.clauses >= self.declared || self.literals >= MOST_LITERALS {
             return self.dead();
         }
         State {
             phase,
             place: self.place + 1,
             value,
-            variables: self.variables,
-            declared: self.declared,
-            clauses: self.clauses,
-            literals: literals + 1,
+            literals: self.literals + 1,
+            ..self
         }
     }
 
@@ -155,7 +133,7 @@ impl State {
         requires { Digit self byte }
         ensures { result ≡ move_of Begin self (byte - 48) }
     {
-        let digit = byte as u32 - 48;
+        let digit = u32::from(byte - b'0');
         if digit > self.variables {
             return self.dead();
         }
@@ -178,7 +156,7 @@ impl State {
         requires { Digit self byte }
         ensures { result ≡ move_of Lead self (byte - 48) }
     {
-        let digit = byte as u32 - 48;
+        let digit = u32::from(byte - b'0');
         if digit > self.variables {
             return self.dead();
         }
@@ -190,14 +168,13 @@ impl State {
         requires { Digit self byte }
         ensures { result ≡ move_of Grow self (byte - 48) }
     {
-        let phase = self.phase;
         if self.value == 0 {
             return self.dead();
         }
-        let next = (self.value as u64) * 10 + (byte as u64 - 48);
-        if next > self.variables as u64 {
+        let next = u64::from(self.value) * 10 + u64::from(byte - b'0');
+        if next > u64::from(self.variables) {
             return self.dead();
         }
-        self.to(phase, next as u32)
+        self.to(self.phase, next as u32)
     }
 }

@@ -10,7 +10,9 @@ use lib.Dec.{eqb, ltb}
 use lib.ListN.{length, drop}
 use borrow.Author.Tests.{ltb-false}
 use Rattle.answer.specs.Answers.{refuses, Wrote, afterwards, stored}
-use Rattle.answer.specs.declared.Answer.TheVariants as answer
+use Rattle.std.specs.Prelude.{Err}
+use Rattle.answer.specs.Answers as answers
+use Rattle.answer.specs.declared.Refusal.TheVariants as refusal
 use Rattle.answer.specs.Answers.{accepted_with}
 use Rattle.std.specs.Prelude.{Err}
 use Rattle.answer.specs.declared.Refusal.TheVariants.{ClauseBytes}
@@ -174,7 +176,7 @@ module _ (text before : List ℕ) where
   data Read : Type 0 where
     accepted : (v : ℕ) (ds : List Clause) → Text v ds text
         → read_call text before ≡ stored (accepted_with v (length ds)) (clauses_bytes ds) before → Read
-    refused : (k : ℕ) → read_call text before ≡ record { answer = answer.Text k; output = before } → Read
+    refused : (k : ℕ) → read_call text before ≡ record { answer = Err (refusal.Text k); output = before } → Read
 
   cases : Read
   cases = go (accepts_text text) refl
@@ -204,7 +206,7 @@ module _ (text before : List ℕ) where
 module _ (text before : List ℕ) where
   data Formula : Type 0 where
     accepted : (v : ℕ) (t : Tree) → satfile.Text v t text → calls.read_call text before ≡ asked.tree_call v t before → Formula
-    refused : (k : ℕ) → calls.read_call text before ≡ record { answer = answer.SatText k; output = before } → Formula
+    refused : (k : ℕ) → calls.read_call text before ≡ record { answer = Err (refusal.SatText k); output = before } → Formula
 
   formula_cases : Formula
   formula_cases = go (reading.accepts_text text) refl
@@ -263,7 +265,7 @@ module _ (bytes : List ℕ) (v : ℕ) (before : Outputs) where
       })
   tidy-accepted e =
       let x = accepted-right (wrong_bytes bytes v) (record { answer = Err ClauseBytes; output = before }) (tidied_into given before) refl e in
-      let y = accepted-right short (record { answer = answer.Room; output = before }) _ refl (passed x.1 e) in
+      let y = accepted-right short (record { answer = Err refusal.Room; output = before }) _ refl (passed x.1 e) in
       let k : 0 + length (clauses_bytes (tidied given)) ≡ length (clauses_bytes (tidied given)) = omega arith in
       let l : 0 + length (change_lines (changes_of given)) ≡ length (change_lines (changes_of given)) = omega arith in (
         x.0,

@@ -12,7 +12,9 @@ use Rattle.laws.proofs.Choices.{both}
 use Rattle.header.specs.Inner.Heads.{is_done, head_of}
 use Rattle.header.proofs.Headed.{head_continues}
 use Rattle.answer.specs.Answers.{stored}
-use Rattle.answer.specs.declared.Answer.TheVariants as answer
+use Rattle.std.specs.Prelude.{Err}
+use Rattle.answer.specs.Answers as answers
+use Rattle.answer.specs.declared.Refusal.TheVariants as refusal
 use Rattle.clausal.specs.Clauses.{Clause, clauses_bytes}
 use Rattle.clausebytes.specs.Words.{clauses_of, Right}
 use Rattle.clausebytes.proofs.Encoded.{clauses_of_bytes}
@@ -48,11 +50,11 @@ accepts_exactly t = (
 
 -- a text that stands for cs is read as the bytes of cs
 pub reads : (v : ℕ) (cs : List Clause) (t buffer : List ℕ) → Text v cs t
-    → read_call t buffer ≡ stored (answer.Accepted v (length cs)) (clauses_bytes cs) buffer
+    → read_call t buffer ≡ stored (answers.accepted_with v (length cs)) (clauses_bytes cs) buffer
 reads v cs t buffer h =
     let e = headed v cs t h in
     let x = body_of_text t e v cs h in
-    rw (e, x.0) (λ i. stored (answer.Accepted (x.3 i) (x.4 i)) (sym x.1 i) buffer)
+    rw (e, x.0) (λ i. stored (answers.accepted_with (x.3 i) (x.4 i)) (sym x.1 i) buffer)
 
 pub right_text : {v : ℕ} {cs : List Clause} {t : List ℕ} → Text v cs t → Right v cs
 right_text {v} {cs} {t} h = ((head_continues cnf refl (Follows v cs) t (headed v cs t h)).0 h).right
@@ -69,15 +71,15 @@ one_reading v w cs ds t g h =
 
 -- any other text is refused with the length of its longest good beginning, and the buffer is left alone
 pub refuses : (t buffer : List ℕ) (k : ℕ) → (Accepted t → ⊥) → Longest Accepted t k
-    → read_call t buffer ≡ record { answer = answer.Text k; output = buffer }
+    → read_call t buffer ≡ record { answer = Err (refusal.Text k); output = buffer }
 refuses t buffer k n p = go (is_done (head_of cnf t).phase) refl (accepts (end t)) refl
   where
-    same : (l : ℕ) → Longest Accepted t l → record { answer = answer.Text l; output = buffer } ≡ read_call t buffer
-        → read_call t buffer ≡ record { answer = answer.Text k; output = buffer }
-    same l q e = sym e ∙ ap (λ (x : ℕ). record { answer = answer.Text x; output = buffer }) (one_place Accepted t l k q p)
+    same : (l : ℕ) → Longest Accepted t l → record { answer = Err (refusal.Text l); output = buffer } ≡ read_call t buffer
+        → read_call t buffer ≡ record { answer = Err (refusal.Text k); output = buffer }
+    same l q e = sym e ∙ ap (λ (x : ℕ). record { answer = Err (refusal.Text x); output = buffer }) (one_place Accepted t l k q p)
 
     go : (b : Bool) → is_done (head_of cnf t).phase ≡ b → (c : Bool) → accepts (end t) ≡ c
-        → read_call t buffer ≡ record { answer = answer.Text k; output = buffer }
+        → read_call t buffer ≡ record { answer = Err (refusal.Text k); output = buffer }
     go false e c f = same (head_of cnf t).place (longest_head t e) (rw e)
     go true e true f = let a = text_of_body t e f in absurd (n ((head_of cnf t).before, a.0, a.1))
     go true e false f = same (end t).place (longest-body t e) (rw (e, f))

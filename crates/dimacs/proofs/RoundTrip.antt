@@ -8,7 +8,7 @@ use lib.ListN.{length}
 use Rattle.text.specs.Texts.{decimal}
 use Rattle.header.specs.Heads.{Blanks, Numbers, space, blank, newline, none, blanks, just, number, header}
 use Rattle.answer.specs.Answers.{stored}
-use Rattle.answer.specs.declared.Answer.TheVariants as answer
+use Rattle.answer.specs.Answers as answers
 use Rattle.clausal.specs.Clauses.{Clause, clauses_bytes}
 use Rattle.clausebytes.specs.Words.{clauses_of, Right, wrong_bytes}
 use Rattle.clausebytes.proofs.Encoded.{Bytes, not_wrong_of_right, clauses_of_bytes, right_of_bytes, bytes_back}
@@ -45,22 +45,22 @@ written-accepted v cs r =
 
 -- right clauses are written ..
 pub writes : (v : ℕ) (cs : List Clause) (buffer : List ℕ) → Right v cs
-    → write_call (clauses_bytes cs) v buffer ≡ stored (answer.Accepted v (length cs)) (written_text v cs) buffer
+    → write_call (clauses_bytes cs) v buffer ≡ stored (answers.accepted_with v (length cs)) (written_text v cs) buffer
 writes v cs buffer r =
     rw (not_wrong_of_right v cs r)
-    (ap (λ (ds : List Clause). stored (answer.Accepted v (length ds)) (written_text v ds) buffer) (clauses_of_bytes v cs r))
+    (ap (λ (ds : List Clause). stored (answers.accepted_with v (length ds)) (written_text v ds) buffer) (clauses_of_bytes v cs r))
 
 -- .. and read again
 pub reads-written : (v : ℕ) (cs : List Clause) (buffer : List ℕ) → Right v cs
-    → read_call (written_text v cs) buffer ≡ stored (answer.Accepted v (length cs)) (clauses_bytes cs) buffer
+    → read_call (written_text v cs) buffer ≡ stored (answers.accepted_with v (length cs)) (clauses_bytes cs) buffer
 reads-written v cs buffer r = reads v cs (written_text v cs) buffer (written-accepted v cs r)
 
 -- the same from bytes that are not refused: what the call writes is read as those bytes
 pub reads_what_writes : (bytes buffer : List ℕ) (v : ℕ) → Bytes bytes → wrong_bytes bytes v ≡ false
-    → read_call (written_text v (clauses_of bytes)) buffer ≡ stored (answer.Accepted v (length (clauses_of bytes))) bytes buffer
+    → read_call (written_text v (clauses_of bytes)) buffer ≡ stored (answers.accepted_with v (length (clauses_of bytes))) bytes buffer
 reads_what_writes bytes buffer v b e =
     reads-written v (clauses_of bytes) buffer (right_of_bytes bytes v b e)
-    ∙ ap (λ (l : List ℕ). stored (answer.Accepted v (length (clauses_of bytes))) l buffer) (bytes_back bytes v b e)
+    ∙ ap (λ (l : List ℕ). stored (answers.accepted_with v (length (clauses_of bytes))) l buffer) (bytes_back bytes v b e)
 
 -- an accepted text and the same clauses written anew stand for the same clauses
 pub rewritten : (v : ℕ) (cs : List Clause) (t : List ℕ) → Text v cs t → Text v cs (written_text v cs)

@@ -3,7 +3,9 @@
 -- Assumes nothing: these are definitions.
 use Rattle.std.specs.Prelude.{cond, Bool, true, false, Some, List, [], ◌∷◌, ◌++◌, ℕ, length, ◌≡◌}
 use Rattle.answer.specs.Answers.{Wrote, stored}
-use Rattle.answer.specs.declared.Answer.TheVariants as answer
+use Rattle.std.specs.Prelude.{Err}
+use Rattle.answer.specs.Answers as answers
+use Rattle.answer.specs.declared.Refusal.TheVariants as refusal
 use Rattle.text.specs.Texts.{decimal}
 use Rattle.header.specs.Heads.{White, Headed}
 use Rattle.header.specs.declared.Form.{Form}
@@ -61,5 +63,5 @@ Accepted t = (v : ℕ) × (cs : List Clause) × Text v cs t
 abbrev pub write_call : List ℕ → ℕ → List ℕ → Wrote (List ℕ)
 write_call bytes v buffer =
     cond (wrong_bytes bytes v)
-    (record { answer = answer.ClauseBytes; output = buffer })
-    (stored (answer.Accepted v (length (clauses_of bytes))) (written_text v (clauses_of bytes)) buffer)
+    (record { answer = Err refusal.ClauseBytes; output = buffer })
+    (stored (answers.accepted_with v (length (clauses_of bytes))) (written_text v (clauses_of bytes)) buffer)

@@ -49,8 +49,8 @@ impl Pen {
     {
         Pen {
             begun: true,
-            negative: self.negative,
-            value: self.value * 10 + (byte as u32 - 48),
+            value: self.value * 10 + u32::from(byte - b'0'),
+            ..self
         }
     }
 
@@ -61,7 +61,7 @@ impl Pen {
         Pen {
             begun: true,
             negative: true,
-            value: self.value,
+            ..self
         }
     }
 }
@@ -87,10 +87,8 @@ pub fn copy(classes: &[u8], text: &[u8], from: usize, variables: u32, declared: 
 {
     let mut pen = Pen::start();
     let mut at = 0;
-    let mut i = from;
-    while i < text.len() {
+    for i in from..text.len() {
         let byte = text[i];
-        i += 1;
         if is_digit(classes, byte) {
             pen = pen.digit(byte);
         } else if is_white(classes, byte) {

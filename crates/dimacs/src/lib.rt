@@ -9,9 +9,9 @@ ghost use Rattle.std.specs.Prelude.{◌≡◌, ◌+◌, ◌<◌, ◌^◌, length
 ghost use Rattle.dimacs.specs.Texts.{header_line, cnf, write_call};
 ghost use Rattle.dimacs.specs.Inner.Calls.{text_length, read_call};
 
-use answer::Answer;
+use answer::{Accepted, Answer, Refusal};
 use body::State;
-use clausebytes::check::{Checked, check};
+use clausebytes::check::check;
 use clausebytes::limits::{MOST_CLAUSES, MOST_VARIABLES};
 use clausebytes::word::room;
 use header::Form;
@@ -30,11 +30,8 @@ pub fn text_length(clauses: &[u8], variables: u32) -> usize
     ensures { result ≡ text_length clauses.now variables }
 {
     match check(clauses, variables) {
-        Checked::Wrong => 0,
-        Checked::Counted {
-            clauses: count,
-            literals: _,
-        } => size(variables, count, writer::lines_size(clauses)),
+        None => 0,
+        Some(counted) => size(variables, counted.clauses, writer::lines_size(clauses)),
     }
 }
 
@@ -42,22 +39,17 @@ pub fn text_length(clauses: &[u8], variables: u32) -> usize
 pub fn write(clauses: &[u8], variables: u32, text: &mut [u8]) -> Answer
     ensures { record { answer = result; output = text.new } ≡ write_call clauses.now variables text.old }
 {
-    match check(clauses, variables) {
-        Checked::Wrong => Answer::ClauseBytes,
-        Checked::Counted {
-            clauses: count,
-            literals: _,
-        } => {
-            if text.len() < size(variables, count, writer::lines_size(clauses)) {
-                return Answer::Room;
-            }
-            writer::put_text(clauses, variables, count, text);
-            Answer::Accepted {
-                first: variables,
-                second: count,
-            }
-        }
+    let Some(counted) = check(clauses, variables) else {
+        return Err(Refusal::ClauseBytes);
+    };
+    if text.len() < size(variables, counted.clauses, writer::lines_size(clauses)) {
+        return Err(Refusal::Room);
     }
+    writer::put_text(clauses, variables, counted.clauses, text);
+    Ok(Accepted {
+        first: variables,
+        second: counted.clauses,
+    })
 }
 
 // The form of the header: `cnf`, variables and clauses.
@@ -81,21 +73,21 @@ pub fn read(text: &[u8], clauses: &mut [u8]) -> Answer
     let head = header::read(&classes, text, cnf_form());
     let from = head.place;
     if !head.is_done() {
-        return Answer::Text { place: from };
+        return Err(Refusal::Text { place: from });
     }
     let variables = head.before;
     let declared = head.value;
     let start = State::start(from, variables, declared);
     let end = reader::check(&classes, text, start);
     if !end.is_accepted() {
-        return Answer::Text { place: end.place };
+        return Err(Refusal::Text { place: end.place });
     }
     if clauses.len() < room(declared, end.literals) {
-        return Answer::Room;
+        return Err(Refusal::Room);
     }
     copier::copy(&classes, text, from, variables, declared, clauses);
-    Answer::Accepted {
+    Ok(Accepted {
         first: variables,
         second: declared,
-    }
+    })
 }

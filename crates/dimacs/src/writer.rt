@@ -22,12 +22,9 @@ pub fn lines_size(bytes: &[u8]) -> usize
     requires { length bytes.now < 2 ^ 32 }
     ensures { result ≡ length (words_text (words_of bytes.now)) }
 {
-    let words = bytes.len() / 4;
     let mut size = 0;
-    let mut i = 0;
-    while i < words {
+    for i in 0..bytes.len() / 4 {
         size += word_size(word_at(bytes, 4 * i));
-        i += 1;
     }
     size
 }
@@ -38,8 +35,8 @@ fn put_header(text: &mut [u8], variables: u32, clauses: u32) -> usize
     ensures { Stored (header_line variables clauses) text.old 0 result text.new }
 {
     let first = put_bytes(text, 0, b"p cnf ");
-    let second = put_field(text, first, variables, 32);
-    put_field(text, second, clauses, 10)
+    let second = put_field(text, first, variables, b' ');
+    put_field(text, second, clauses, b'\n')
 }
 
 // Writes the text of a word, and returns the next place.
@@ -48,14 +45,14 @@ fn put_word(text: &mut [u8], at: usize, word: u32) -> usize
     ensures { Stored (word_text word) text.old at result text.new }
 {
     if word == 0 {
-        let next = put_byte(text, at, 48);
-        return put_byte(text, next, 10);
+        let next = put_byte(text, at, b'0');
+        return put_byte(text, next, b'\n');
     }
     if word < SIGN {
-        return put_field(text, at, magnitude(word), 32);
+        return put_field(text, at, magnitude(word), b' ');
     }
-    let next = put_byte(text, at, 45);
-    put_field(text, next, magnitude(word), 32)
+    let next = put_byte(text, at, b'-');
+    put_field(text, next, magnitude(word), b' ')
 }
 
 // Writes the lines of clause bytes from `at` on.
@@ -63,13 +60,9 @@ fn put_words(bytes: &[u8], text: &mut [u8], at: usize)
     requires { at + length (words_text (words_of bytes.now)) ≤ length text.old }
     ensures { text.new ≡ splice text.old at (words_text (words_of bytes.now)) }
 {
-    let words = bytes.len() / 4;
     let mut next = at;
-    let mut i = 0;
-    while i < words {
-        let word = word_at(bytes, 4 * i);
-        next = put_word(text, next, word);
-        i += 1;
+    for i in 0..bytes.len() / 4 {
+        next = put_word(text, next, word_at(bytes, 4 * i));
     }
 }
 

@@ -1,13 +1,13 @@
 -- What the tests of a byte's class say of its act, phase by phase.
 -- Assumes nothing.
-use mathlib.Core.Path.{◌≡◌, refl, sym, ap, ◌∙◌}
-use mathlib.Core.Bool.{Bool, true, false, false≢true}
-use Prim.Native.Nat.{ℕ, ◌-◌, ◌≤◌}
+use mathlib.Core.Path.{◌≡◌, refl, sym}
+use mathlib.Core.Bool.{true, false, false≢true}
+use Prim.Native.Nat.{ℕ, ◌≤◌}
 use native.Mathlib.Omega.{arith}
 use lib.Dec.{eqb}
 use Rattle.classes.specs.Inner.Classes as class
 use Rattle.classes.specs.Inner.Classes.{Class, class_of, code, is_white, is_digit}
-use Rattle.body.specs.Inner.Table.{Sort, Nought, Digit, Minus, White, sort_in, sort_of, Act, Die, Grow, row, act_of, is_number}
+use Rattle.body.specs.Inner.Table.{Nought, Digit, Minus, White, sort_in, Act, Die, Grow, row, act_of, is_number}
 use Rattle.body.specs.Inner.States.{to_of, move_of}
 use Rattle.body.specs.declared.phase.Phase.{Phase}
 use Rattle.body.specs.declared.phase.Phase.TheVariants.{Between, Closed, Sign, Plain, Negated, Dead}

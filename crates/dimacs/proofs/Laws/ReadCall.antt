@@ -10,7 +10,9 @@ use Rattle.laws.specs.Lists.{splice}
 use Rattle.header.specs.Inner.Heads.{is_done, head_of}
 use Rattle.header.specs.declared.Head.{Head}
 use Rattle.answer.specs.Answers.{stored}
-use Rattle.answer.specs.declared.Answer.TheVariants.{Accepted, Room, Text}
+use Rattle.answer.specs.Answers.{accepted_with}
+use Rattle.std.specs.Prelude.{Err}
+use Rattle.answer.specs.declared.Refusal.TheVariants.{Room, Text}
 use Rattle.answer.proofs.Laws.Part.{stored_short, stored-fits}
 use Rattle.clausebytes.specs.Inner.Checks.{room_of}
 use Rattle.clausebytes.proofs.Encoded.{length-clauses}
@@ -32,9 +34,9 @@ abbrev pub bytes_at : Head → List ℕ → List ℕ
 bytes_at h t = bytes_from (start_at h) t h.place
 
 module _ (t buffer : List ℕ) {h : Head} (g : h ≡ head_of cnf t) where
-  pub read_headless : is_done h.phase ≡ false → record { answer = Text h.place; output = buffer } ≡ read_call t buffer
+  pub read_headless : is_done h.phase ≡ false → record { answer = Err (Text h.place); output = buffer } ≡ read_call t buffer
   read_headless =
-      subst (λ (x : Head). is_done x.phase ≡ false → record { answer = Text x.place; output = buffer } ≡ read_call t buffer) (sym g)
+      subst (λ (x : Head). is_done x.phase ≡ false → record { answer = Err (Text x.place); output = buffer } ≡ read_call t buffer) (sym g)
       (λ e. rw e)
 
 -- what is known after the head and the first reading of what follows, which ended in e
@@ -50,17 +52,17 @@ module _ {t : List ℕ} (buffer : List ℕ) {h : Head} {e : State} (k : Seen t h
   end_is : e ≡ end_at (head_of cnf t) t
   end_is = k.read ∙ ap (λ (x : Head). end_at x t) k.head
 
-  pub read-refused : accepts e ≡ false → record { answer = Text e.place; output = buffer } ≡ read_call t buffer
+  pub read-refused : accepts e ≡ false → record { answer = Err (Text e.place); output = buffer } ≡ read_call t buffer
   read-refused f =
       let n : accepts (end_at (head_of cnf t) t) ≡ false = ap accepts (sym end_is) ∙ f in
-      (λ i. record { answer = Text (end_is i).place; output = buffer }) ∙ rw (done, n)
+      (λ i. record { answer = Err (Text (end_is i).place); output = buffer }) ∙ rw (done, n)
 
   module _ (f : accepts e ≡ true) where
     accepted : accepts (end_at (head_of cnf t) t) ≡ true
     accepted = ap accepts (sym end_is) ∙ f
 
-    read-stored : stored (Accepted h.before h.value) (bytes_at (head_of cnf t) t) buffer ≡ read_call t buffer
-    read-stored = (λ i. stored (Accepted (k.head i).before (k.head i).value) (bytes_at (head_of cnf t) t) buffer) ∙ rw (done, accepted)
+    read-stored : stored (accepted_with h.before h.value) (bytes_at (head_of cnf t) t) buffer ≡ read_call t buffer
+    read-stored = (λ i. stored (accepted_with (k.head i).before (k.head i).value) (bytes_at (head_of cnf t) t) buffer) ∙ rw (done, accepted)
 
     -- the size that the totals tell
     size : length (bytes_at (head_of cnf t) t) ≡ room_of h.value e.literals
@@ -72,9 +74,9 @@ module _ {t : List ℕ} (buffer : List ℕ) {h : Head} {e : State} (k : Seen t h
         ∙ (λ i. room_of (sym w.4 i) (sym w.2 i))
         ∙ sym (λ i. room_of (k.head i).value (end_is i).literals)
 
-    pub read_no_room : length buffer < room_of h.value e.literals → record { answer = Room; output = buffer } ≡ read_call t buffer
+    pub read_no_room : length buffer < room_of h.value e.literals → record { answer = Err Room; output = buffer } ≡ read_call t buffer
     read_no_room n =
-        stored_short (Accepted h.before h.value) (bytes_at (head_of cnf t) t) buffer (omega (arith, size)) ∙ read-stored
+        stored_short (accepted_with h.before h.value) (bytes_at (head_of cnf t) t) buffer (omega (arith, size)) ∙ read-stored
 
     -- there is room: the second reading writes
     module _ (n : room_of h.value e.literals ≤ length buffer) where
@@ -85,8 +87,8 @@ module _ {t : List ℕ} (buffer : List ℕ) {h : Head} {e : State} (k : Seen t h
       read-room = omega (arith, ap length bytes-are, size)
 
       pub read-accepted : {after : List ℕ} → after ≡ splice buffer 0 (bytes_at h t)
-          → record { answer = Accepted h.before h.value; output = after } ≡ read_call t buffer
+          → record { answer = accepted_with h.before h.value; output = after } ≡ read_call t buffer
       read-accepted {after = after} w =
-          stored-fits (Accepted h.before h.value) (bytes_at (head_of cnf t) t) buffer after (omega (arith, size))
+          stored-fits (accepted_with h.before h.value) (bytes_at (head_of cnf t) t) buffer after (omega (arith, size))
           (w ∙ ap (splice buffer 0) bytes-are)
           ∙ read-stored

@@ -7,11 +7,12 @@ use Prim.Native.Nat.{ℕ, ◌+◌, ◌^◌, ◌≤◌, ◌<◌}
 use native.Mathlib.Omega.{arith}
 use lib.ListN.{length, length-append}
 use Rattle.laws.specs.Lists.{splice}
-use Rattle.answer.specs.declared.Answer.TheVariants.{Accepted, Room, ClauseBytes}
+use Rattle.answer.specs.Answers.{accepted_with}
+use Rattle.std.specs.Prelude.{Err, None}
+use Rattle.answer.specs.declared.Refusal.TheVariants.{Room, ClauseBytes}
 use Rattle.answer.proofs.Laws.Part.{stored_short, stored-fits}
 use Rattle.clausebytes.specs.Words.{words_of, clauses_of}
 use Rattle.clausebytes.specs.Inner.Checks.{checked_of}
-use Rattle.clausebytes.specs.declared.check.Checked.TheVariants.{Wrong}
 use Rattle.clausebytes.proofs.Laws.Checking.{Found, refused_of_checked}
 use Rattle.clausebytes.proofs.Laws.Stand.{stand}
 use Rattle.clausebytes.proofs.Laws.Words.{length_words}
@@ -21,11 +22,11 @@ use Rattle.dimacs.specs.Inner.Calls.{text_length}
 use Rattle.dimacs.proofs.Laws.Written.{words_short, lines-stand}
 
 -- what the check found: wrong ..
-pub found-refused : (bytes : List ℕ) (v : ℕ) (buffer : List ℕ) → checked_of bytes v ≡ Wrong
-    → record { answer = ClauseBytes; output = buffer } ≡ write_call bytes v buffer
+pub found-refused : (bytes : List ℕ) (v : ℕ) (buffer : List ℕ) → checked_of bytes v ≡ None
+    → record { answer = Err ClauseBytes; output = buffer } ≡ write_call bytes v buffer
 found-refused bytes v buffer e = rw (refused_of_checked bytes v e)
 
-pub length-wrong : (bytes : List ℕ) (v : ℕ) → checked_of bytes v ≡ Wrong → 0 ≡ text_length bytes v
+pub length-wrong : (bytes : List ℕ) (v : ℕ) → checked_of bytes v ≡ None → 0 ≡ text_length bytes v
 length-wrong bytes v e = rw (refused_of_checked bytes v e)
 
 -- .. or right, with k clauses and n literals
@@ -56,20 +57,20 @@ module _ {bytes : List ℕ} {v k n : ℕ} (f : Found bytes v k n) where
 
   pub found_no_room : (buffer : List ℕ) (size : ℕ) → size ≡ length (header_line v k) + length (words_text (words_of bytes))
       → length buffer < size
-      → record { answer = Room; output = buffer } ≡ write_call bytes v buffer
+      → record { answer = Err Room; output = buffer } ≡ write_call bytes v buffer
   found_no_room buffer size e h =
       rw f.not_wrong
-      (stored_short (Accepted v (length (clauses_of bytes))) (written_text v (clauses_of bytes)) buffer (omega (arith, length_text size e)))
+      (stored_short (accepted_with v (length (clauses_of bytes))) (written_text v (clauses_of bytes)) buffer (omega (arith, length_text size e)))
 
   pub found-room : (buffer : List ℕ) (size : ℕ) → size ≡ length (header_line v k) + length (words_text (words_of bytes)) → size ≤ length buffer
       → length (text_of bytes v k) ≤ length buffer
   found-room buffer size e h = omega (arith, length_text size e, ap length written_words)
 
   pub found-written : (buffer after : List ℕ) → length (text_of bytes v k) ≤ length buffer → after ≡ splice buffer 0 (text_of bytes v k)
-      → record { answer = Accepted v k; output = after } ≡ write_call bytes v buffer
+      → record { answer = accepted_with v k; output = after } ≡ write_call bytes v buffer
   found-written buffer after h e =
       rw f.not_wrong
-      ((λ i. record { answer = Accepted v (sym f.clauses_are i); output = after })
-      ∙ stored-fits (Accepted v (length (clauses_of bytes))) (written_text v (clauses_of bytes)) buffer after
+      ((λ i. record { answer = accepted_with v (sym f.clauses_are i); output = after })
+      ∙ stored-fits (accepted_with v (length (clauses_of bytes))) (written_text v (clauses_of bytes)) buffer after
       (omega (arith, ap length written_words))
       (e ∙ ap (splice buffer 0) (sym written_words)))

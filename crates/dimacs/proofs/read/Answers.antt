@@ -4,7 +4,6 @@ use mathlib.Core.Bool.{true}
 use mathlib.Core.List.{List}
 use Prim.Native.Nat.{ℕ, ◌≤◌}
 use native.Mathlib.Omega.{arith}
-use borrow.Author.Tests.{not-true, not-false}
 use lib.ListN.{length}
 use Rattle.classes.proofs.Laws.Classes.{length-table}
 use Rattle.header.specs.Inner.Heads.{head_of, Lettered}
@@ -39,7 +38,7 @@ head c = c.read-head.ensures ∙ ap (λ f. head_of f (text_of c)) c.cnf_form.ens
 pub returns-then-not-is_done : goal.returns-then-not-is_done
 returns-then-not-is_done c =
     read_headless (text_of (goal.at.returns-then-not-is_done c).After-read-head) (buffer-of (goal.at.returns-then-not-is_done c).After-read-head) (head (goal.at.returns-then-not-is_done c).After-read-head)
-    (sym c.is_done.ensures ∙ not-true c.is_done.result c.if-not-is_done.true-raw)
+    (sym c.is_done.ensures ∙ c.if-not-is_done.true)
 
 pub check-end-requires : goal.check-end-requires
 check-end-requires c =
@@ -58,18 +57,18 @@ seen : (c : After-check-end) → Seen (text_of (goal.at.After-check-end c).After
 seen c =
     record {
       head = head (goal.at.After-check-end c).After-read-head;
-      done = sym c.is_done.ensures ∙ not-false c.is_done.result c.if-not-is_done.false-raw;
+      done = sym c.is_done.ensures ∙ c.if-not-is_done.false;
       read = c.check-end.ensures ∙ ap (λ (s : State). state_from s (text_of (goal.at.After-check-end c).After-read-head) s.place) c.start-start.ensures;
     }
 
 pub returns-then-not-is_accepted : goal.returns-then-not-is_accepted
 returns-then-not-is_accepted c =
     read-refused (buffer-of (goal.at.returns-then-not-is_accepted c).After-read-head) (seen (goal.at.returns-then-not-is_accepted c).After-check-end)
-    (sym c.is_accepted.ensures ∙ not-true c.is_accepted.result c.if-not-is_accepted.true-raw)
+    (sym c.is_accepted.ensures ∙ c.if-not-is_accepted.true)
 
 -- it is accepted
 accepted : (c : Else-not-is_accepted) → accepts c.check-end.result ≡ true
-accepted c = sym c.is_accepted.ensures ∙ not-false c.is_accepted.result c.if-not-is_accepted.false-raw
+accepted c = sym c.is_accepted.ensures ∙ c.if-not-is_accepted.false
 
 pub returns-then-clauses-room : goal.returns-then-clauses-room
 returns-then-clauses-room c =

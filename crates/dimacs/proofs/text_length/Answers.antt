@@ -5,25 +5,25 @@ use lib.ListN.{length}
 use Rattle.clausebytes.proofs.Laws.Checking.{Found, found_of_checked}
 use Rattle.dimacs.specs.Texts.{header_line}
 use Rattle.dimacs.proofs.Laws.WriteCall.{length-wrong, found-small, found-lines, length_found}
-use Rattle.dimacs.proofs.text_length.Goals.{In-Counted}
+use Rattle.dimacs.proofs.text_length.Goals.{In-Some}
 use Rattle.dimacs.proofs.text_length.Goals as goal
 
 -- what the check found
-abbrev FoundT : In-Counted → Type 0
+abbrev FoundT : In-Some → Type 0
 FoundT c =
     let x = c.args in
-    Found x.clauses.now x.variables c.in-Counted.count c.in-Counted.literals
+    Found x.clauses.now x.variables c.in-Some.counted.clauses c.in-Some.counted.literals
 
-found : (c : In-Counted) → FoundT c
+found : (c : In-Some) → FoundT c
 found c =
     let x = c.args in
-    found_of_checked x.clauses.now x.variables _ _ (sym c.check.ensures ∙ c.in-Counted.is)
+    found_of_checked x.clauses.now x.variables _ _ (sym c.check.ensures ∙ c.in-Some.is)
 
-pub returns-in-Counted : goal.returns-in-Counted
-returns-in-Counted c =
+pub returns-in-Some : goal.returns-in-Some
+returns-in-Some c =
     let x = c.args in
-    length_found (found (goal.at.returns-in-Counted c).In-Counted) _
-    (c.size.ensures ∙ ap (λ n. length (header_line x.variables c.in-Counted.count) + n) c.lines_size.ensures)
+    length_found (found (goal.at.returns-in-Some c).In-Some) _
+    (c.size.ensures ∙ ap (λ n. length (header_line x.variables c.in-Some.counted.clauses) + n) c.lines_size.ensures)
 
 pub lines_size-requires : goal.lines_size-requires
 lines_size-requires c =
@@ -31,9 +31,9 @@ lines_size-requires c =
 
 pub size-requires : goal.size-requires
 size-requires c =
-    found-lines (found (goal.at.size-requires c).In-Counted) _ c.lines_size.ensures
+    found-lines (found (goal.at.size-requires c).In-Some) _ c.lines_size.ensures
 
-pub returns-in-Wrong : goal.returns-in-Wrong
-returns-in-Wrong c =
+pub returns-in-None : goal.returns-in-None
+returns-in-None c =
     let x = c.args in length-wrong x.clauses.now x.variables
-    (sym c.check.ensures ∙ c.in-Wrong.is)
+    (sym c.check.ensures ∙ c.in-None.is)

@@ -7,36 +7,36 @@ use Rattle.clausebytes.proofs.Laws.Checking.{Found, found_of_checked}
 use Rattle.dimacs.specs.Texts.{header_line}
 use Rattle.dimacs.specs.Inner.Words.{words_text}
 use Rattle.dimacs.proofs.Laws.WriteCall.{found-refused, found-small, found-lines, found_no_room, found-room, found-written}
-use Rattle.dimacs.proofs.write.Goals.{After-size, In-Counted}
+use Rattle.dimacs.proofs.write.Goals.{After-size, In-Some}
 use Rattle.dimacs.proofs.write.Goals as goal
 
-abbrev clauses-at : In-Counted → ℕ
-clauses-at c = c.in-Counted.count
+abbrev clauses-at : In-Some → ℕ
+clauses-at c = c.in-Some.counted.clauses
 
-found : (c : In-Counted) → let x = c.args in Found x.clauses.now x.variables (clauses-at c) c.in-Counted.literals
+found : (c : In-Some) → let x = c.args in Found x.clauses.now x.variables (clauses-at c) c.in-Some.counted.literals
 found c =
     let x = c.args in
-    found_of_checked x.clauses.now x.variables _ _ (sym c.check.ensures ∙ c.in-Counted.is)
+    found_of_checked x.clauses.now x.variables _ _ (sym c.check.ensures ∙ c.in-Some.is)
 
 sized : (c : After-size) → let x = c.args in
-    c.size.result ≡ length (header_line x.variables (clauses-at (goal.at.After-size c).In-Counted)) + length (words_text (words_of x.clauses.now))
+    c.size.result ≡ length (header_line x.variables (clauses-at (goal.at.After-size c).In-Some)) + length (words_text (words_of x.clauses.now))
 sized c =
     let x = c.args in
-    c.size.ensures ∙ ap (λ n. length (header_line x.variables (clauses-at (goal.at.After-size c).In-Counted)) + n) c.lines_size.ensures
+    c.size.ensures ∙ ap (λ n. length (header_line x.variables (clauses-at (goal.at.After-size c).In-Some)) + n) c.lines_size.ensures
 
 pub returns-then-text-size : goal.returns-then-text-size
 returns-then-text-size c =
-    found_no_room (found (goal.at.returns-then-text-size c).In-Counted) c.args.text.now _ (sized (goal.at.returns-then-text-size c).After-size) c.if-text-size.true
+    found_no_room (found (goal.at.returns-then-text-size c).In-Some) c.args.text.now _ (sized (goal.at.returns-then-text-size c).After-size) c.if-text-size.true
 
 pub put_text-requires : goal.put_text-requires
 put_text-requires c =
-    found-room (found (goal.at.put_text-requires c).In-Counted) c.args.text.now _ (sized (goal.at.put_text-requires c).After-size) c.if-text-size.false
+    found-room (found (goal.at.put_text-requires c).In-Some) c.args.text.now _ (sized (goal.at.put_text-requires c).After-size) c.if-text-size.false
 
-pub returns-else-text-size : goal.returns-else-text-size
-returns-else-text-size c =
+pub returns : goal.returns
+returns c =
     let buffer = c.args.text.now in
-    let room = found-room (found (goal.at.returns-else-text-size c).In-Counted) buffer _ (sized (goal.at.returns-else-text-size c).After-size) c.if-text-size.false in
-    found-written (found (goal.at.returns-else-text-size c).In-Counted) buffer _ room c.put_text.ensures
+    let room = found-room (found (goal.at.returns c).In-Some) buffer _ (sized (goal.at.returns c).After-size) c.if-text-size.false in
+    found-written (found (goal.at.returns c).In-Some) buffer _ room c.put_text.ensures
 
 pub lines_size-requires : goal.lines_size-requires
 lines_size-requires c =
@@ -44,9 +44,9 @@ lines_size-requires c =
 
 pub size-requires : goal.size-requires
 size-requires c =
-    found-lines (found (goal.at.size-requires c).In-Counted) _ c.lines_size.ensures
+    found-lines (found (goal.at.size-requires c).In-Some) _ c.lines_size.ensures
 
-pub returns-in-Wrong : goal.returns-in-Wrong
-returns-in-Wrong c =
+pub returns-in_default : goal.returns-in_default
+returns-in_default c =
     let x = c.args in
-    found-refused x.clauses.now x.variables x.text.now (sym c.check.ensures ∙ c.in-Wrong.is)
+    found-refused x.clauses.now x.variables x.text.now (sym c.check.ensures ∙ c.in_default.is)

@@ -1,6 +1,6 @@
 -- The second reading of a text, which is known to be right: what has been read of a word, and what copying the words asks.
 -- Assumes nothing: these are definitions.
-use Rattle.std.specs.Prelude.{◌≡◌, Bool, true, false, cond, not, ◌&&◌, List, [], ℕ, ◌+◌, ◌*◌, ◌-◌, ◌^◌, ◌≤◌, ◌<◌, length}
+use Rattle.std.specs.Prelude.{◌≡◌, Bool, true, false, cond, not, List, [], ℕ, ◌+◌, ◌*◌, ◌-◌, ◌^◌, ◌≤◌, ◌<◌, length}
 use Rattle.classes.specs.Inner.Classes.{class_of, is_white, is_digit, table}
 use Rattle.clausal.specs.Clauses.{literal_bytes}
 use Rattle.body.specs.Inner.States.{accepts}

@@ -3,7 +3,7 @@
 use mathlib.Core.Path.{◌≡◌, sym, ap, ◌∙◌, subst}
 use mathlib.Core.Bool.{true, false}
 use mathlib.Core.List.{List}
-use Prim.Native.Nat.{ℕ, ◌+◌, ◌-◌, ◌≤◌, ◌<◌}
+use Prim.Native.Nat.{ℕ, ◌+◌, ◌≤◌, ◌<◌}
 use lib.ListN.{length, get_or}
 use Rattle.laws.specs.Inner.Stores.{Stored}
 use Rattle.laws.specs.Numbers.{little}
@@ -18,6 +18,7 @@ use Rattle.dimacs.proofs.Laws.Copies.{Copied, copied_start, copied_length, copie
 use Rattle.dimacs.proofs.Laws.Copies.{copied_last, copied_end}
 use Rattle.dimacs.proofs.Laws.Copies.{pen_digit, pen_none, pen_minus, not-ended, ended}
 use Rattle.dimacs.proofs.copier.copy.Goals.{After-is_digit, After-word, After-word-2, At-loop-i, Else-is_digit, Then-is_digit, Then-is_white}
+use Rattle.dimacs.proofs.copier.copy.Goals.{then-is_digit, else-is_digit+then-is_white, else-is_digit+else-is_white}
 use Rattle.dimacs.proofs.copier.copy.Goals as goal
 
 -- what comes next, from where the loop is
@@ -60,12 +61,6 @@ digit-pen-requires c =
     c.loop-i.invariant
     (inside (goal.at.digit-pen-requires c).After-is_digit) c.ranges.variables.fits (is c)
 
-pub loop-i-preserved-then-is_digit : goal.loop-i-preserved-then-is_digit
-loop-i-preserved-then-is_digit c =
-    more (goal.at.loop-i-preserved-then-is_digit c).At-loop-i (inside (goal.at.loop-i-preserved-then-is_digit c).After-is_digit) c.digit-pen.result c.loop-i.at c.loop-i.out
-    (c.digit-pen.ensures ∙ sym (pen_digit (pen (goal.at.loop-i-preserved-then-is_digit c).At-loop-i) (byte (goal.at.loop-i-preserved-then-is_digit c).At-loop-i) (is (goal.at.loop-i-preserved-then-is_digit c).Then-is_digit)))
-    (not-ended (pen (goal.at.loop-i-preserved-then-is_digit c).At-loop-i) (byte (goal.at.loop-i-preserved-then-is_digit c).At-loop-i) c.loop-i.out c.loop-i.at (digit_no_white (class_of (byte (goal.at.loop-i-preserved-then-is_digit c).At-loop-i)) (is (goal.at.loop-i-preserved-then-is_digit c).Then-is_digit)))
-
 -- white space
 no_digit : (c : Else-is_digit) → is_digit (class_of (byte (goal.at.Else-is_digit c).At-loop-i)) ≡ false
 no_digit c = sym c.is_digit.ensures ∙ c.if-is_digit.false
@@ -81,19 +76,29 @@ pub put_word-at-requires : goal.put_word-at-requires
 put_word-at-requires c =
     subst (λ (xs : List ℕ). c.loop-i.at + length xs ≤ length c.loop-i.out) (word_bytes c) (room (goal.at.put_word-at-requires c).At-loop-i (inside (goal.at.put_word-at-requires c).After-is_digit))
 
-pub loop-i-preserved-then-is_white : goal.loop-i-preserved-then-is_white
-loop-i-preserved-then-is_white c =
-    more (goal.at.loop-i-preserved-then-is_white c).At-loop-i (inside (goal.at.loop-i-preserved-then-is_white c).After-is_digit) c.start-pen-then-is_white.result c.put_word-at.result c.put_word-at.new.out
-    (c.start-pen-then-is_white.ensures ∙ sym (pen_none (pen (goal.at.loop-i-preserved-then-is_white c).At-loop-i) (byte (goal.at.loop-i-preserved-then-is_white c).At-loop-i) (no_digit (goal.at.loop-i-preserved-then-is_white c).Else-is_digit) (white (goal.at.loop-i-preserved-then-is_white c).Then-is_white)))
-    (stored_as (word_bytes (goal.at.loop-i-preserved-then-is_white c).After-word) c.put_word-at.ensures)
-
--- a `-`
+-- what each of the three writes
 pub loop-i-preserved : goal.loop-i-preserved
 loop-i-preserved c =
-    let w = sym c.is_white.ensures ∙ c.if-is_white.false in
-    more (goal.at.loop-i-preserved c).At-loop-i (inside (goal.at.loop-i-preserved c).After-is_digit) c.minus-pen.result c.loop-i.at c.loop-i.out
-    (c.minus-pen.ensures ∙ sym (pen_minus (pen (goal.at.loop-i-preserved c).At-loop-i) (byte (goal.at.loop-i-preserved c).At-loop-i) (no_digit (goal.at.loop-i-preserved c).Else-is_digit) w))
-    (not-ended (pen (goal.at.loop-i-preserved c).At-loop-i) (byte (goal.at.loop-i-preserved c).At-loop-i) c.loop-i.out c.loop-i.at w)
+    let at = (goal.at.loop-i-preserved c).At-loop-i in
+    let h = inside (goal.at.loop-i-preserved c).After-is_digit in
+    let p = pen at in
+    let b = byte at in
+    elim c.if-is_digit.branch [
+      | then-is_digit w ↦
+          let yes = sym c.is_digit.ensures ∙ w.if-is_digit.true in
+          rw (w.out-is, w.pen-is, w.at-is)
+          (more at h _ _ _ (w.digit-pen.ensures ∙ sym (pen_digit p b yes)) (not-ended p b c.loop-i.out c.loop-i.at (digit_no_white (class_of b) yes)))
+      | else-is_digit+then-is_white w ↦
+          let no = sym c.is_digit.ensures ∙ w.if-is_digit.false in
+          let space = sym w.is_white.ensures ∙ w.if-is_white.true in
+          rw (w.out-is, w.pen-is, w.at-is)
+          (more at h _ _ _ (w.start-pen-then-is_white.ensures ∙ sym (pen_none p b no space)) (stored_as (ended p b w.word.result space w.word.ensures) w.put_word-at.ensures))
+      | else-is_digit+else-is_white w ↦
+          let no = sym c.is_digit.ensures ∙ w.if-is_digit.false in
+          let none = sym w.is_white.ensures ∙ w.if-is_white.false in
+          rw (w.out-is, w.pen-is, w.at-is)
+          (more at h _ _ _ (w.minus-pen.ensures ∙ sym (pen_minus p b no none)) (not-ended p b c.loop-i.out c.loop-i.at none))
+    ]
 
 last-room : (c : After-word-2) → c.loop-i.at + length (written (pen (goal.at.After-word-2 c).At-loop-i).begun (little 4 c.word-2.result)) ≤ length c.loop-i.out
 last-room c =

@@ -3,9 +3,7 @@
 use mathlib.Core.Path.{◌≡◌, sym, ◌∙◌}
 use mathlib.Core.Bool.{true, false, false≢true}
 use mathlib.Core.Logic.{inl, inr}
-use Prim.Native.Nat.{◌-◌}
 use native.Mathlib.Omega.{arith}
-use borrow.Author.Tests.{not-true, not-false}
 use Rattle.classes.specs.Inner.Classes.{class_of, is_digit}
 use Rattle.body.specs.Inner.Table.{is_dead}
 use Rattle.dimacs.specs.Inner.Walks.{next_in, Leads}
@@ -21,12 +19,12 @@ returns-then-not-is_digit c =
     record {
       leads = l.invariant.0;
       next = inr l.invariant.1;
-      stops = λ _ _. sym c.is_digit.ensures ∙ not-true c.is_digit.result c.if-not-is_digit.true-raw;
+      stops = λ _ _. sym c.is_digit.ensures ∙ c.if-not-is_digit.true;
     }
 
 -- a digit
 is : (c : Else-not-is_digit) → is_digit (class_of (next_in c.args.text.now c.loop-state.state)) ≡ true
-is c = sym c.is_digit.ensures ∙ not-false c.is_digit.result c.if-not-is_digit.false-raw
+is c = sym c.is_digit.ensures ∙ c.if-not-is_digit.false
 
 pub grow-state-requires : goal.grow-state-requires
 grow-state-requires c =

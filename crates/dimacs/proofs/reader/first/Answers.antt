@@ -3,7 +3,6 @@ use mathlib.Core.Path.{◌≡◌, sym, ◌∙◌}
 use mathlib.Core.Bool.{true, false}
 use Prim.Native.Nat.{ℕ}
 use native.Mathlib.Omega.{arith}
-use borrow.Author.Tests.{not-true, not-false}
 use lib.Dec.{eqb}
 use Rattle.classes.specs.Inner.Classes.{class_of, code}
 use Rattle.body.specs.Inner.Table.{is_dead}
@@ -35,11 +34,11 @@ returns-then-is_of c =
 pub returns-then-not-is_of : goal.returns-then-not-is_of
 returns-then-not-is_of c =
     literal-wrong c.args.text.now c.args.start c.dead.result c.requires.place c.requires.phase c.requires.apart c.requires.some
-    (no_digit (goal.at.returns-then-not-is_of c).Else-is_of) (sym c.is_of-2.ensures ∙ not-true c.is_of-2.result c.if-not-is_of.true-raw) c.dead.ensures
+    (no_digit (goal.at.returns-then-not-is_of c).Else-is_of) (sym c.is_of-2.ensures ∙ c.if-not-is_of.true) c.dead.ensures
 
 is-minus : (c : After-turn-sign) → eqb (Code (goal.at.After-turn-sign c).Start) 3 ≡ true
 is-minus c =
-    sym c.is_of-2.ensures ∙ not-false c.is_of-2.result c.if-not-is_of.false-raw
+    sym c.is_of-2.ensures ∙ c.if-not-is_of.false
 
 pub returns-then-is_dead : goal.returns-then-is_dead
 returns-then-is_dead c =
@@ -58,10 +57,10 @@ pub returns-then-not-is_of-2 : goal.returns-then-not-is_of-2
 returns-then-not-is_of-2 c =
     minus-wrong c.args.text.now c.args.start c.turn-sign.result c.requires.place c.requires.phase (is-minus (goal.at.returns-then-not-is_of-2 c).After-turn-sign)
     c.turn-sign.ensures (live (goal.at.returns-then-not-is_of-2 c).Else-is_dead) c.dead-then-not-is_of-2.result (omega (arith, c.if-i-text.false))
-    (sym c.is_of-3.ensures ∙ not-true c.is_of-3.result c.if-not-is_of-2.true-raw) c.dead-then-not-is_of-2.ensures
+    (sym c.is_of-3.ensures ∙ c.if-not-is_of-2.true) c.dead-then-not-is_of-2.ensures
 
 is-lead : (c : Else-not-is_of-2) → eqb (code (class_of (next_in c.args.text.now c.turn-sign.result))) 10 ≡ true
-is-lead c = sym c.is_of-3.ensures ∙ not-false c.is_of-3.result c.if-not-is_of-2.false-raw
+is-lead c = sym c.is_of-3.ensures ∙ c.if-not-is_of-2.false
 
 pub lead-requires : goal.lead-requires
 lead-requires c =

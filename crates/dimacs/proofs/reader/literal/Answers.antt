@@ -2,7 +2,6 @@
 use mathlib.Core.Path.{◌≡◌, sym, ◌∙◌}
 use mathlib.Core.Bool.{false}
 use native.Mathlib.Omega.{arith}
-use borrow.Author.Tests.{not-true, not-false}
 use Rattle.body.specs.Inner.Table.{is_dead}
 use Rattle.dimacs.specs.Inner.Walks.{dead, end}
 use Rattle.dimacs.proofs.Laws.Tokens.{spelt_begun, spelt_over, spelt_wrong, spelt_white}
@@ -12,14 +11,14 @@ use Rattle.dimacs.proofs.reader.literal.Goals as goal
 pub returns-then-not-is_number : goal.returns-then-not-is_number
 returns-then-not-is_number c =
     spelt_begun c.args.text.now c.args.start c.first-begun.result c.first-begun.ensures
-    (sym c.is_number.ensures ∙ not-true c.is_number.result c.if-not-is_number.true-raw)
+    (sym c.is_number.ensures ∙ c.if-not-is_number.true)
 
 pub digits-end-requires : goal.digits-end-requires
 digits-end-requires c =
     record {
       table = c.requires.table;
       place = c.first-begun.ensures.leads.within;
-      number = sym c.is_number.ensures ∙ not-false c.is_number.result c.if-not-is_number.false-raw;
+      number = sym c.is_number.ensures ∙ c.if-not-is_number.false;
     }
 
 pub returns-then-is_dead : goal.returns-then-is_dead
@@ -40,10 +39,10 @@ pub returns-then-not-is_white : goal.returns-then-not-is_white
 returns-then-not-is_white c =
     spelt_wrong c.args.text.now c.args.start c.first-begun.result c.digits-end.result c.first-begun.ensures
     c.digits-end.ensures (live (goal.at.returns-then-not-is_white c).Else-is_dead) (omega (arith, c.if-i-text.false)) c.dead.result
-    (sym c.is_white.ensures ∙ not-true c.is_white.result c.if-not-is_white.true-raw) c.dead.ensures
+    (sym c.is_white.ensures ∙ c.if-not-is_white.true) c.dead.ensures
 
 pub returns : goal.returns
 returns c =
     spelt_white c.args.text.now c.args.start c.first-begun.result c.digits-end.result c.first-begun.ensures
     c.digits-end.ensures (live (goal.at.returns c).Else-is_dead) (omega (arith, c.if-i-text.false))
-    (sym c.is_white.ensures ∙ not-false c.is_white.result c.if-not-is_white.false-raw)
+    (sym c.is_white.ensures ∙ c.if-not-is_white.false)

@@ -2,7 +2,6 @@
 use mathlib.Core.Path.{◌≡◌, sym, ◌∙◌}
 use mathlib.Core.Bool.{false}
 use native.Mathlib.Omega.{arith}
-use borrow.Author.Tests.{not-true, not-false}
 use Rattle.body.specs.Inner.Table.{is_dead}
 use Rattle.dimacs.proofs.Laws.Tokens.{zero-dead, zero-end, zero-wrong, zero-apart}
 use Rattle.dimacs.proofs.reader.zero.Goals.{Else-is_dead}
@@ -26,10 +25,10 @@ pub returns-then-not-is_white : goal.returns-then-not-is_white
 returns-then-not-is_white c =
     zero-wrong c.args.text.now c.args.start c.close-closed.result c.requires.place c.requires.phase c.requires.zero
     c.close-closed.ensures (live (goal.at.returns-then-not-is_white c).Else-is_dead) c.dead.result (omega (arith, c.if-i-text.false))
-    (sym c.is_white.ensures ∙ not-true c.is_white.result c.if-not-is_white.true-raw) c.dead.ensures
+    (sym c.is_white.ensures ∙ c.if-not-is_white.true) c.dead.ensures
 
 pub returns : goal.returns
 returns c =
     zero-apart c.args.text.now c.args.start c.close-closed.result c.requires.place c.requires.phase c.requires.zero
     c.close-closed.ensures (live (goal.at.returns c).Else-is_dead) c.pass.result (omega (arith, c.if-i-text.false))
-    (sym c.is_white.ensures ∙ not-false c.is_white.result c.if-not-is_white.false-raw) c.pass.ensures
+    (sym c.is_white.ensures ∙ c.if-not-is_white.false) c.pass.ensures

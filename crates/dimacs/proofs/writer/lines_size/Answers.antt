@@ -1,7 +1,7 @@
 -- `dimacs::writer::lines_size` meets its contract: the sizes of the words are added up. Assumes nothing.
-use mathlib.Core.Path.{refl, subst}
+use mathlib.Core.Path.{subst}
 use mathlib.Core.List.{List}
-use Prim.Native.Nat.{ℕ, ◌-◌}
+use Prim.Native.Nat.{ℕ}
 use native.Mathlib.Omega.{arith}
 use Rattle.clausebytes.specs.Words.{words_of}
 use Rattle.clausebytes.proofs.Laws.Words.{words_next, words_end}
@@ -13,21 +13,21 @@ loop-i-preserved c =
     let l = c.loop-i in
     let bytes = c.args.bytes.now in
     let s = subst (λ (r : List ℕ). Sizing (words_of bytes) r l.i l.size)
-    (words_next bytes l.i c.word_at.result (omega arith) c.word_at.ensures) l.invariant.2 in
-    (refl, omega arith, sizing_more c.word_at.result c.word_size-size.result s c.word_size-size.ensures (omega (arith, c)))
+    (words_next bytes l.i c.word_at.result (omega arith) c.word_at.ensures) l.invariant in
+    sizing_more c.word_at.result c.word_size-size.result s c.word_size-size.ensures (omega (arith, c))
 
 pub returns : goal.returns
 returns c =
     let l = c.loop-i in
     let bytes = c.args.bytes.now in
-    sizing_end (subst (λ (r : List ℕ). Sizing (words_of bytes) r l.i l.size) (words_end bytes l.i c.loop-i-test.false) l.invariant.2)
+    sizing_end (subst (λ (r : List ℕ). Sizing (words_of bytes) r l.i l.size) (words_end bytes l.i c.loop-i-test.false) l.invariant)
 
 -- the sum is small
 pub overflow_add-size : goal.overflow_add-size
 overflow_add-size c =
     let short = word-short c.word_at.result (omega (arith, c)) in
-    omega (arith, c.loop-i.invariant.2.small, c.word_size-size.ensures, short, c.requires)
+    omega (arith, c.loop-i.invariant.small, c.word_size-size.ensures, short, c.requires)
 
 pub loop-i-init : goal.loop-i-init
 loop-i-init c =
-    (refl, omega arith, sizing_start _)
+    sizing_start _

@@ -1,14 +1,9 @@
 -- `dimacs::writer::put_words` meets its contract: the texts of the words one behind the other. Assumes nothing.
-use mathlib.Core.Path.{◌≡◌}
-use Prim.Native.Nat.{◌-◌, ◌/◌, ◌≤◌}
-use lib.ListN.{length, drop}
+use lib.ListN.{drop}
 use Rattle.laws.proofs.Stored.{Storing}
 use Rattle.clausebytes.specs.Words.{words_of}
 use Rattle.dimacs.specs.Inner.Words.{words_text}
 use Rattle.dimacs.proofs.writer.put_words.Given as goal
 
 abbrev pub invariant-loop-i : goal.invariant-loop-i
-invariant-loop-i l = (l.words ≡ length l.bytes / 4) × (l.i ≤ l.words) × Storing (words_text (words_of l.bytes)) l.initial.text l.at (words_text (drop l.i (words_of l.bytes))) l.text l.next
-
-abbrev pub decreases-loop-i : goal.decreases-loop-i
-decreases-loop-i l = l.words - l.i
+invariant-loop-i l = Storing (words_text (words_of l.bytes)) l.initial.text l.at (words_text (drop l.i (words_of l.bytes))) l.text l.next
