@@ -4,8 +4,10 @@ use Rattle.std.specs.Prelude.{Bool, true, false, ◌&&◌, cond, List, [], ◌�
 use Rattle.text.specs.Texts.{value_of, same, is_number, parted}
 use Rattle.formula.specs.Tables.{node_record, most_nodes}
 use Rattle.laws.specs.Lists.{first}
-use Rattle.answer.specs.declared.Answer.{Answer}
-use Rattle.answer.specs.declared.Answer.TheVariants.{Accepted, Line}
+use Rattle.answer.specs.Answers.{Answer}
+use Rattle.answer.specs.Answers.{accepted_with}
+use Rattle.std.specs.Prelude.{Err}
+use Rattle.answer.specs.declared.Refusal.TheVariants.{Line}
 
 -- R13.1: the fields of a line, with a tab between every two
 abbrev pub newline : ℕ
@@ -101,5 +103,5 @@ most_bytes = 65_536
 -- R10.9: refusal 10 with the line, told from 1; or the option count and the nodes
 abbrev pub file_checked : List ℕ → Answer
 file_checked text =
-    cond (ltb most_bytes (length text)) (Line 0)
-    (cond (file_right text) (Accepted (option_count (line_of text 0)) (file_nodes text)) (Line (first_wrong text + 1)))
+    cond (ltb most_bytes (length text)) (Err (Line 0))
+    (cond (file_right text) (accepted_with (option_count (line_of text 0)) (file_nodes text)) (Err (Line (first_wrong text + 1))))

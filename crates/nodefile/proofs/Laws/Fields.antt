@@ -7,14 +7,14 @@ use Prim.Native.Nat.{ℕ, ◌≤◌, ◌<◌}
 use native.Mathlib.Omega.{arith}
 use lib.ListN.{length, drop}
 use Rattle.text.proofs.Laws.Pieces.{pieces_at, pieces-within, pieces-past, parted-some, NoField, missing, other, FieldIs}
-use Rattle.text.specs.declared.number.Number.TheVariants.{Is, Wrong}
+use Rattle.std.specs.Prelude.{Some, None}
 use Rattle.nodefile.specs.Files.{tab, are_numbers}
 
 -- options that are right and wrong are told apart
-pub number-differs : (x : ℕ) → Is x ≡ Wrong → ⊥
+pub number-differs : (x : ℕ) → Some x ≡ None → ⊥
 number-differs x e = let z : ◌≡◌ {A = ℕ} 0 1 = cc in omega arith
 
-pub number_same : (x y : ℕ) → Is x ≡ Is y → x ≡ y
+pub number_same : (x y : ℕ) → Some x ≡ Some y → x ≡ y
 number_same x y e = cc
 
 -- no number here, a number more in front, and no field more

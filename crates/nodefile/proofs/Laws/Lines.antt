@@ -10,13 +10,12 @@ use borrow.Author.Tests.{lt-ltb, le-ltb}
 use Rattle.laws.proofs.Choices.{chose_first, chose_second}
 use Rattle.text.specs.Texts.{parted}
 use Rattle.text.specs.Inner.Pieces.{MarkAt}
-use Rattle.text.specs.declared.number.Number.TheVariants as number
+use Rattle.std.specs.Prelude.{Some, None}
 use Rattle.text.proofs.Laws.Pieces.{parted-next, pieces-within, pieces-past, parted-some}
 use Rattle.formula.specs.Tables.{most_nodes, node_record}
 use Rattle.nodefile.specs.Files.{newline, field_value, option_line, option_count, node_line}
 use Rattle.nodefile.specs.Inner.Steps.{next_passes, LineIs, OptionsAre, node_test, NodeIs, options_of, node_of}
 use Rattle.nodefile.specs.declared.line.Node.{Node}
-use Rattle.nodefile.specs.declared.line.Node.TheVariants as node
 use Rattle.nodefile.proofs.Laws.Fields.{number-differs, number_same}
 
 module _ (test : List ℕ → Bool) (text : List ℕ) (at end : ℕ) (m : MarkAt newline text at end) where
@@ -49,18 +48,18 @@ module _ (text : List ℕ) (end : ℕ) (m : MarkAt newline text 0 end) (h : end 
   front : take (end - 0) text ≡ take end text
   front = let k : end - 0 ≡ end = omega arith in ap (λ (n : ℕ). take n text) k
 
-  pub options_fail : number.Wrong ≡ options_of (take end text) → next_passes option_line (parted newline text) ≡ false
+  pub options_fail : None ≡ options_of (take end text) → next_passes option_line (parted newline text) ≡ false
   options_fail e =
       let line = take end text in
       let v = option_count line in
-      let f = chose_second (number.Is v) number.Wrong (number-differs v) (option_line line) e in
+      let f = chose_second (Some v) None (number-differs v) (option_line line) e in
       next_fails option_line text 0 end m h (ap option_line front ∙ f)
 
-  pub options-are : (v : ℕ) → number.Is v ≡ options_of (take end text) → OptionsAre text v (end + 1)
+  pub options-are : (v : ℕ) → Some v ≡ options_of (take end text) → OptionsAre text v (end + 1)
   options-are v e =
       let line = take end text in
-      let x = number.Is (option_count line) in
-      let c = chose_first x number.Wrong (number.Is v) (number-differs v) (option_line line) e in
+      let x = Some (option_count line) in
+      let c = chose_first x None (Some v) (number-differs v) (option_line line) e in
       record {
         line = take (end - 0) text;
         found = next-is option_line text 0 end m h (ap option_line front ∙ c.0);
@@ -68,15 +67,13 @@ module _ (text : List ℕ) (end : ℕ) (m : MarkAt newline text 0 end) (h : end 
       }
 
 -- the line of a node
-node-differs : (k a b : ℕ) → node.Is k a b ≡ node.Wrong → ⊥
-node-differs k a b e = let z : ◌≡◌ {A = ℕ} 0 1 = cc in omega arith
+node-differs : (n : Node) → Some n ≡ None → ⊥
+node-differs n e = let z : ◌≡◌ {A = ℕ} 0 1 = cc in omega arith
 
-node_record_lem : (k a b x y z : ℕ) → node.Is k a b ≡ node.Is x y z → node_record x y z ≡ node_record k a b
-node_record_lem k a b x y z e =
-    let p : x ≡ k = cc in
-    let q : y ≡ a = cc in
-    let r : z ≡ b = cc in
-    λ i. node_record (p i) (q i) (r i)
+node_record_lem : (n m : Node) → Some n ≡ Some m → node_record m.kind m.a m.b ≡ node_record n.kind n.a n.b
+node_record_lem n m e =
+    let p : m ≡ n = cc in
+    ap (λ (x : Node). node_record x.kind x.a x.b) p
 
 -- a node too many
 over : (i : ℕ) (ps : List (List ℕ)) → most_nodes ≤ i → next_passes (node_test i) ps ≡ false
@@ -95,19 +92,18 @@ module _ (text : List ℕ) (at end i : ℕ) (m : MarkAt newline text at end) (h 
 
   -- what its fields say
   abbrev said : Node
-  said = node.Is (field_value line 1) (field_value line 2) (field_value line 3)
+  said = record { kind = field_value line 1; a = field_value line 2; b = field_value line 3 }
 
-  pub node_fails : node.Wrong ≡ node_of i line → next_passes (node_test i) (parted newline (drop at text)) ≡ false
+  pub node_fails : None ≡ node_of i line → next_passes (node_test i) (parted newline (drop at text)) ≡ false
   node_fails e =
-      let d = node-differs (field_value line 1) (field_value line 2) (field_value line 3) in
-      let f = chose_second said node.Wrong d (node_line i line) e in
+      let f = chose_second (Some said) None (node-differs said) (node_line i line) e in
       next_fails (node_test i) text at end m h (rw (lt-ltb i most_nodes few) f)
 
-  pub node-is : (k a b : ℕ) → node.Is k a b ≡ node_of i line → NodeIs text at i k a b (end + 1)
-  node-is k a b e =
-      let c = chose_first said node.Wrong (node.Is k a b) (node-differs k a b) (node_line i line) e in
+  pub node-is : (n : Node) → Some n ≡ node_of i line → NodeIs text at i n.kind n.a n.b (end + 1)
+  node-is n e =
+      let c = chose_first (Some said) None (Some n) (node-differs n) (node_line i line) e in
       record {
         line = line;
         found = next-is (node_test i) text at end m h (rw (lt-ltb i most_nodes few) c.0);
-        same = node_record_lem k a b (field_value line 1) (field_value line 2) (field_value line 3) c.1;
+        same = node_record_lem n said c.1;
       }

@@ -11,7 +11,7 @@ use Rattle.text.specs.Texts.{value_of}
 use Rattle.text.proofs.Laws.Pieces.{pieces_at, pieces-within, pieces-past, NoField, FieldIs}
 use Rattle.nodefile.specs.Files.{tab, most_kind, most_number, fields_of, field_value, are_numbers, node_limits}
 use Rattle.nodefile.specs.Inner.Steps.{node_of}
-use Rattle.nodefile.specs.declared.line.Node.TheVariants.{Is, Wrong}
+use Rattle.std.specs.Prelude.{Some, None}
 use Rattle.nodefile.proofs.Laws.Fields.{numbers_not, numbers_step, numbers_more, numbers_end}
 
 -- the fields before a place are right: what is left decides
@@ -27,14 +27,14 @@ module _ (line : List ℕ) where
   left-next {limits = limits} l f = record { decides = l.decides ∙ numbers_step line f limits }
 
 module _ (i : ℕ) (line : List ℕ) where
-  node-wrong : are_numbers node_limits (fields_of line) ≡ false → Wrong ≡ node_of i line
+  node-wrong : are_numbers node_limits (fields_of line) ≡ false → None ≡ node_of i line
   node-wrong e = rw e
 
   pub node-number : {most : ℕ} {limits : List ℕ} {at : ℕ} → Left line (most ∷ limits) at
-      → NoField tab most line at → Wrong ≡ node_of i line
+      → NoField tab most line at → None ≡ node_of i line
   node-number {limits = limits} l f = node-wrong (l.decides ∙ numbers_not line f limits)
 
-  pub node-more : {next : ℕ} → Left line [] next → next ≤ length line → Wrong ≡ node_of i line
+  pub node-more : {next : ℕ} → Left line [] next → next ≤ length line → None ≡ node_of i line
   node-more {next} l h = node-wrong (l.decides ∙ numbers_more line next h)
 
   -- the four fields
@@ -58,13 +58,13 @@ module _ (i : ℕ) (line : List ℕ) where
         let two = left-next line (left-next line (left-start line) f₀) f₁ in
         (left-next line (left-next line two f₂) f₃).decides ∙ numbers_end line fifth h
 
-    pub node-other : (n ≡ i → ⊥) → Wrong ≡ node_of i line
+    pub node-other : (n ≡ i → ⊥) → None ≡ node_of i line
     node-other g = rw (right, ne_eqb (field_value line 0) i (λ e. g (f₀.same ∙ sym (valued 0) ∙ e)))
 
-    pub node-right : n ≡ i → Is kind a b ≡ node_of i line
+    pub node-right : n ≡ i → Some (record { kind = kind; a = a; b = b }) ≡ node_of i line
     node-right g =
         rw (right, eq-eqb (field_value line 0) i (valued 0 ∙ sym f₀.same ∙ g))
         (let k : kind ≡ field_value line 1 = f₁.same ∙ sym (valued 1) in
         let x : a ≡ field_value line 2 = f₂.same ∙ sym (valued 2) in
         let y : b ≡ field_value line 3 = f₃.same ∙ sym (valued 3) in
-        λ j. Is (k j) (x j) (y j))
+        λ j. Some (record { kind = k j; a = x j; b = y j }))

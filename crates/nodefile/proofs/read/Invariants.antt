@@ -10,7 +10,7 @@ use Rattle.nodefile.proofs.Laws.Files.{Collected}
 use Rattle.nodefile.proofs.read.Given as goal
 
 abbrev pub invariant-loop-at : goal.invariant-loop-at
-invariant-loop-at l = (l.at ≤ length l.text) × (l.nodes ≤ most_nodes) × (l.options ≡ option_count (line_of l.text 0))
+invariant-loop-at l = (l.at ≤ length l.text) × (l.nodes ≤ most_nodes) × (l.options.says ≡ option_count (line_of l.text 0))
     × Standing l.text l.at (l.nodes + 1) × Collected l.text l.bytes l.nodes
 
 abbrev pub decreases-loop-at : goal.decreases-loop-at
