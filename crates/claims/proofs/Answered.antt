@@ -13,8 +13,8 @@ use Rattle.laws.specs.Lists.{splice}
 use Rattle.laws.specs.Numbers.{little, little_at}
 use Rattle.laws.proofs.Bytes.{little_at-little}
 use Rattle.answer.specs.Answers.{told_of, refuses, after, bytes_of, Wrote, stored, Left, leaves}
-use Rattle.answer.specs.declared.Answer.{Answer}
-use Rattle.answer.specs.declared.Answer.TheVariants.{Accepted}
+use Rattle.answer.specs.Answers.{Answer}
+use Rattle.answer.specs.Answers.{accepted_with}
 use Rattle.answer.proofs.Laws.Order.{Kept, accepted-stored}
 use Rattle.answer.proofs.Laws.Part.{stored-fits}
 use Rattle.claims.specs.Calls.{Seen, first, second, over}
@@ -129,7 +129,7 @@ module _ {O : Type 0} (s : Seen O) (w : Wrote O)
           absurd (omega arith)
 
   -- it gives what it wrote
-  pub gives : (x y : ℕ) (after : O) → Zero → w ≡ record { answer = Accepted x y; output = after } → Gives s x y after
+  pub gives : (x y : ℕ) (after : O) → Zero → w ≡ record { answer = accepted_with x y; output = after } → Gives s x y after
   gives x y after z q = record {
     values = z.values ∙ ap (λ (v : Wrote O). bytes_of (told_of v.answer)) q;
     outputs = z.outputs ∙ ap (λ (v : Wrote O). v.output) q;

@@ -9,7 +9,7 @@ use lib.ListN.{length, get_or, take, drop, replicate}
 use lib.Seq.{take-append_seam}
 use borrow.Author.Tests.{eq-eqb, eqb-true, le-ltb}
 use Rattle.answer.specs.Answers.{told_of, refuses, Wrote, only, Left, leaves}
-use Rattle.answer.specs.declared.Answer.TheVariants.{Accepted}
+use Rattle.answer.specs.Answers.{accepted_with}
 use Rattle.formula.specs.Checks.{checked}
 use Rattle.formula.specs.Tables.{most_options, nodes_of}
 use Rattle.formula.proofs.Laws.WellFormed.{checked-accepted}
@@ -136,7 +136,7 @@ origins_done c z = let g = origins_guard c in
 pub tidy_done : (c : Tidy) → (tidy_seen c).returned ≡ 0 → let cs = tidy_clauses c in
     (wrong_bytes (tidy_bytes c) (tidy_variables c) ≡ false)
     × (tidy_wrote c ≡ record {
-      answer = Accepted (length (changes_of cs)) (length (tidied cs));
+      answer = accepted_with (length (changes_of cs)) (length (tidied cs));
       output = record {
         kept = over (clauses_bytes (tidied cs)) (tidy_seen c).before.kept;
         lines = over (change_lines (changes_of cs)) (tidy_seen c).before.lines;
@@ -171,7 +171,7 @@ module _ (w : Write) (r : Read) (z : (write_seen w).returned ≡ 0)
   done = zero (write_seen w) (write_wrote w) w.promise.0 z
 
   wrote : (wrong_bytes bytes (declared w) ≡ false) × (write_wrote w ≡ record {
-    answer = Accepted (declared w) (length (clauses_of bytes));
+    answer = accepted_with (declared w) (length (clauses_of bytes));
     output = over text (write_seen w).before;
   })
   wrote = write-accepted bytes (declared w) (write_seen w).before done.accepted
@@ -184,7 +184,7 @@ module _ (w : Write) (r : Read) (z : (write_seen w).returned ≡ 0)
       ∙ take-append_seam text (drop (length text) (write_seen w).before)
 
   read_again : read_wrote r ≡ record {
-    answer = Accepted (declared w) (length (clauses_of bytes));
+    answer = accepted_with (declared w) (length (clauses_of bytes));
     output = over bytes (read_seen r).before;
   }
   read_again =

@@ -5,8 +5,9 @@ use mathlib.Core.Bool.{not, true}
 use Prim.Native.Nat.{ℕ}
 use borrow.Author.Tests.{ne_eqb}
 use Rattle.answer.specs.Answers.{told_of, refuses, after, bytes_of, Wrote, afterwards}
-use Rattle.answer.specs.declared.Answer.{Answer}
-use Rattle.answer.specs.declared.Answer.TheVariants.{Record}
+use Rattle.answer.specs.Answers.{Answer}
+use Rattle.std.specs.Prelude.{Err}
+use Rattle.answer.specs.declared.Refusal.TheVariants.{Record}
 use Rattle.answer.proofs.Laws.Order.{refused-first, refused-wrote}
 use Rattle.formula.specs.Checks.{checked}
 use Rattle.formula.specs.Tables.{node_at, fault_of}

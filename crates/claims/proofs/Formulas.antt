@@ -9,7 +9,9 @@ use lib.ListN.{length, take, drop}
 use lib.Seq.{take-append_seam}
 use borrow.Author.Tests.{lt-ltb, le-ltb}
 use Rattle.answer.specs.Answers.{told_of, bytes_of, Wrote, stored}
-use Rattle.answer.specs.declared.Answer.TheVariants.{Accepted, Nodes}
+use Rattle.answer.specs.Answers.{accepted_with}
+use Rattle.std.specs.Prelude.{Err}
+use Rattle.answer.specs.declared.Refusal.TheVariants.{Nodes}
 use Rattle.formula.specs.Checks.{checked}
 use Rattle.formula.specs.Tables.{node_bytes, most_nodes, nodes_of}
 use Rattle.formula.specs.Truths.{formula_true}
@@ -35,16 +37,16 @@ module _ (c : ReadSat) (p : length (sat_seen c).part ≡ 16) {w : Wrote (List �
 module _ (c : ReadSat) (v : ℕ) (t : Tree) (h : Text v t (sat_text c)) (p : length (sat_seen c).part ≡ 16) where
   many : most_nodes < size_of t → (sat_seen c).returned ≡ 18
   many m =
-      let e : tree_call v t (sat_seen c).before ≡ record { answer = Nodes; output = (sat_seen c).before } = rw (lt-ltb _ _ m) in
+      let e : tree_call v t (sat_seen c).before ≡ record { answer = Err Nodes; output = (sat_seen c).before } = rw (lt-ltb _ _ m) in
       returns c p (reads v t (sat_text c) (sat_seen c).before h ∙ e)
 
   accepts : size_of t ≤ most_nodes → node_bytes * size_of t ≤ length (sat_seen c).before → (sat_seen c).returned ≡ 0
   accepts m r =
       let room : length (table_of t) ≤ length (sat_seen c).before = omega (arith, table-length t) in
-      let e : tree_call v t (sat_seen c).before ≡ stored (Accepted v (size_of t)) (table_of t) (sat_seen c).before = rw (le-ltb _ _ m) in
+      let e : tree_call v t (sat_seen c).before ≡ stored (accepted_with v (size_of t)) (table_of t) (sat_seen c).before = rw (le-ltb _ _ m) in
       returns c p
       (reads v t (sat_text c) (sat_seen c).before h ∙ e
-      ∙ stored-room (Accepted v (size_of t)) (table_of t) (sat_seen c).before refl room)
+      ∙ stored-room (accepted_with v (size_of t)) (table_of t) (sat_seen c).before refl room)
 
 -- a call that returned 0
 module _ (c : ReadSat) (z : (sat_seen c).returned ≡ 0) where
@@ -76,7 +78,7 @@ module _ (c : ReadSat) (z : (sat_seen c).returned ≡ 0) where
   passes : (d : Check) → (check_guard d).table ≡ table_left c → (check_guard d).options ≡ first (sat_seen c) → length (check_seen d).part ≡ 16
       → (check_seen d).returned ≡ 0
   passes d e f p =
-      let same : checked (check_guard d).table (check_guard d).options ≡ Accepted 0 0 =
+      let same : checked (check_guard d).table (check_guard d).options ≡ accepted_with 0 0 =
       (λ i. checked ((e ∙ left) i) ((f ∙ options) i)) ∙ text_checked text few in
       ((demand1.check d).right_part p).0 ∙ ap (λ a. (told_of a).number) same
 

@@ -11,7 +11,9 @@ use borrow.Author.Tests.{ltb-true}
 use Rattle.laws.specs.Lists.{Every}
 use Rattle.laws.specs.Lists as lists
 use Rattle.answer.specs.Answers.{refuses, Wrote}
-use Rattle.answer.specs.declared.Answer.TheVariants.{Accepted, Clauses, Literals}
+use Rattle.answer.specs.Answers.{accepted_with}
+use Rattle.std.specs.Prelude.{Err}
+use Rattle.answer.specs.declared.Refusal.TheVariants.{Clauses, Literals}
 use Rattle.formula.specs.declared.node.Node.{Node}
 use Rattle.formula.proofs.Laws.Tables.{length-nodes_of}
 use Rattle.formula.proofs.Laws.WellFormed.{length-right}

@@ -10,7 +10,9 @@ use lib.Dec.{eqb, ltb}
 use lib.ListN.{length}
 use borrow.Author.Tests.{lt-ltb, eqb-true, eqb-false}
 use Rattle.answer.specs.Answers.{refuses, told_of, Wrote, afterwards, stored}
-use Rattle.answer.specs.declared.Answer.TheVariants.{Accepted, Literals, Room}
+use Rattle.answer.specs.Answers.{accepted_with}
+use Rattle.std.specs.Prelude.{Err}
+use Rattle.answer.specs.declared.Refusal.TheVariants.{Literals, Room}
 use Rattle.answer.proofs.Laws.Order.{accepted-afterwards}
 use Rattle.formula.specs.Checks.{checked}
 use Rattle.formula.specs.Inner.Right.{WellFormed}
@@ -34,21 +36,21 @@ use Rattle.claims.proofs.Answered.{zero, second-told}
 use Rattle.claims.proofs.Demands.{demand1, demand2, choose_wrote}
 
 -- a conversion that passes the check of its set, and has clauses below the ceiling, is accepted or is refusal 6 or 7
-module _ (u : Renaming) (ns : List Node) (before : List ℕ) (set : set_checked ns u.set ≡ Accepted 0 0)
+module _ (u : Renaming) (ns : List Node) (before : List ℕ) (set : set_checked ns u.set ≡ accepted_with 0 0)
     (few : length (output_of u ns) < clause_ceiling) where
   abbrev number_of : Wrote (List ℕ) → ℕ
   number_of w = (told_of w.answer).number
 
   stores : Wrote (List ℕ)
-  stores = stored (Accepted (variables_of u (length ns)) (length (output_of u ns))) (clauses_bytes (output_of u ns)) before
+  stores = stored (accepted_with (variables_of u (length ns)) (length (output_of u ns))) (clauses_bytes (output_of u ns)) before
 
   room : number_of stores ≢ 5
   unfolding stores
   room = go (ltb (length before) (length (clauses_bytes (output_of u ns)))) _
     where
       go : (b : Bool) (after : List ℕ)
-          → number_of (cond b (record { answer = Room; output = before })
-          (record { answer = Accepted (variables_of u (length ns)) (length (output_of u ns)); output = after })) ≢ 5
+          → number_of (cond b (record { answer = Err Room; output = before })
+          (record { answer = accepted_with (variables_of u (length ns)) (length (output_of u ns)); output = after })) ≢ 5
       go true after e = absurd (omega arith)
       go false after e = absurd (omega arith)
 
@@ -57,10 +59,10 @@ module _ (u : Renaming) (ns : List Node) (before : List ℕ) (set : set_checked 
   not_5 e = go (ltb (literals_in (output_of u ns)) literal_ceiling) (sym passed ∙ e)
     where
       passed : number_of (converted_under u ns before)
-          ≡ number_of (afterwards (cond (ltb (literals_in (output_of u ns)) literal_ceiling) (Accepted 0 0) Literals) before stores)
+          ≡ number_of (afterwards (cond (ltb (literals_in (output_of u ns)) literal_ceiling) (accepted_with 0 0) (Err Literals)) before stores)
       passed = rw (set, lt-ltb (length (output_of u ns)) clause_ceiling few)
 
-      go : (b : Bool) → number_of (afterwards (cond b (Accepted 0 0) Literals) before stores) ≡ 5 → ⊥
+      go : (b : Bool) → number_of (afterwards (cond b (accepted_with 0 0) (Err Literals)) before stores) ≡ 5 → ⊥
       go true f = room f
       go false f = omega arith
 
@@ -114,7 +116,7 @@ module _ (c : Choose) (z : (choose_seen c).returned ≡ 0) where
         not_so : (before : List ℕ) → (told_of (converted g.table g.options chosen before).answer).number ≢ 5
         not_so before e =
             let u : Renaming = renaming g.options chosen in
-            let right : set_checked ns chosen ≡ Accepted 0 0 = chosen-right (names g) ns (allowance c) in
+            let right : set_checked ns chosen ≡ accepted_with 0 0 = chosen-right (names g) ns (allowance c) in
             let out : length (output_of u ns) < clause_ceiling = omega (arith, clauses-read u ns, low) in
             not_5 u ns before right out
             (sym (ap (λ (b : Bool). (told_of (cond b (record { answer = checked g.table g.options; output = before })

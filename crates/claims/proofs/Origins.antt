@@ -8,8 +8,10 @@ use lib.Dec.{ltb}
 use lib.ListN.{length}
 use borrow.Author.Tests.{ltb-true}
 use Rattle.answer.specs.Answers.{refuses, Wrote, afterwards, stored}
-use Rattle.answer.specs.declared.Answer.{Answer}
-use Rattle.answer.specs.declared.Answer.TheVariants.{Accepted, NoClause, Names}
+use Rattle.answer.specs.Answers.{Answer}
+use Rattle.answer.specs.Answers.{accepted_with}
+use Rattle.std.specs.Prelude.{Err}
+use Rattle.answer.specs.declared.Refusal.TheVariants.{NoClause, Names}
 use Rattle.answer.proofs.Laws.Order.{Kept, kept-afterwards, kept-stored, accepted-afterwards}
 use Rattle.formula.specs.Checks.{checked}
 use Rattle.formula.specs.Tables.{nodes_of}
@@ -29,14 +31,14 @@ use Rattle.claims.proofs.Answered.{not-both, passed, stored-over}
 
 -- what a call for lines that accepts has passed and written; `Asked` is what it found of the number of a clause, where one was given
 pub record Told (g : Guard) (Asked : Type 0) (on hn lines before : List ℕ) (w : Wrote (List ℕ)) : Type 0 where
-  pub table : checked g.table g.options ≡ Accepted 0 0
-  pub set : set_checked (nodes g) g.set ≡ Accepted 0 0
+  pub table : checked g.table g.options ≡ accepted_with 0 0
+  pub set : set_checked (nodes g) g.set ≡ accepted_with 0 0
   pub sizes : refuses (ceilings (size_of (output_of (names g) (nodes g)))) ≡ false
   pub clause : Asked
   pub options : right_names g.options on ≡ true
   pub helpers : right_names (renamed_below g.set (length (nodes g))) hn ≡ true
   pub wrote : w ≡ record {
-    answer = Accepted (variables_of (names g) (length (nodes g))) (length (output_of (names g) (nodes g)));
+    answer = accepted_with (variables_of (names g) (length (nodes g))) (length (output_of (names g) (nodes g)));
     output = over lines before;
   }
 
@@ -44,11 +46,11 @@ pub record Told (g : Guard) (Asked : Type 0) (on hn lines before : List ℕ) (w 
 clause-below : (count k : ℕ) → refuses (clause_checked count k) ≡ false → k < count
 clause-below count k e = ltb-true k count (go (ltb k count) e)
   where
-    go : (b : Bool) → refuses (cond b (Accepted 0 0) (NoClause k)) ≡ false → b ≡ true
+    go : (b : Bool) → refuses (cond b (accepted_with 0 0) (Err (NoClause k))) ≡ false → b ≡ true
     go true f = refl
     go false f = not-both (sym f)
 
-both_right : (a b : Bool) → refuses (cond (a && b) (Accepted 0 0) Names) ≡ false → (a ≡ true) × (b ≡ true)
+both_right : (a b : Bool) → refuses (cond (a && b) (accepted_with 0 0) (Err Names)) ≡ false → (a ≡ true) × (b ≡ true)
 both_right true true e = (refl, refl)
 both_right true false e = not-both (sym e)
 both_right false b e = not-both (sym e)
@@ -65,7 +67,7 @@ module _ (t : List ℕ) (v : ℕ) (s : List ℕ) (a : Answer) (on hn lines befor
   ns = nodes_of t
 
   abbrev stores : Wrote (List ℕ)
-  stores = stored (Accepted (variables_of u (length ns)) (length (output_of u ns))) lines before
+  stores = stored (accepted_with (variables_of u (length ns)) (length (output_of u ns))) lines before
 
   abbrev shown : Wrote (List ℕ)
   shown = shown_with u ns on hn lines before
@@ -131,8 +133,8 @@ module _ (t : List ℕ) (v : ℕ) (s : List ℕ) (on hn before : List ℕ) where
   all = lines_of (name_of on hn v) (renaming v s) (nodes_of t) count
 
   pub origins-kept : Kept before (origins_call t v s on hn before)
-  origins-kept = lined_kept t v s (Accepted 0 0) on hn all before
+  origins-kept = lined_kept t v s (accepted_with 0 0) on hn all before
 
   pub origins-told : refuses (origins_call t v s on hn before).answer ≡ false
       → Told here (Unit {0}) on hn all before (origins_call t v s on hn before)
-  origins-told = lined_told t v s (Accepted 0 0) on hn all before (Unit {0}) (λ e. tt)
+  origins-told = lined_told t v s (accepted_with 0 0) on hn all before (Unit {0}) (λ e. tt)

@@ -11,7 +11,9 @@ use lib.ListN.{length, drop}
 use borrow.Author.Tests.{ltb-false}
 use Rattle.answer.specs.Answers.{refuses, Wrote, afterwards, stored}
 use Rattle.answer.specs.declared.Answer.TheVariants as answer
-use Rattle.answer.specs.declared.Answer.TheVariants.{Accepted, ClauseBytes}
+use Rattle.answer.specs.Answers.{accepted_with}
+use Rattle.std.specs.Prelude.{Err}
+use Rattle.answer.specs.declared.Refusal.TheVariants.{ClauseBytes}
 use Rattle.answer.proofs.Laws.Order.{Kept, kept-afterwards, kept-stored, accepted-afterwards}
 use Rattle.formula.specs.Checks.{checked}
 use Rattle.marks.specs.Sets.{set_checked}
@@ -45,7 +47,7 @@ use Rattle.claims.proofs.Answered.{stored-over}
 
 -- measuring
 pub measured-accepted : (t : List ℕ) (v : ℕ) (s : List ℕ) → refuses (measured t v s) ≡ false
-    → measured t v s ≡ Accepted (totals (renaming v s) (nodes_of t)).clauses (totals (renaming v s) (nodes_of t)).literals
+    → measured t v s ≡ accepted_with (totals (renaming v s) (nodes_of t)).clauses (totals (renaming v s) (nodes_of t)).literals
 measured-accepted t v s e =
     let a = accepted-after (checked t v) _ e in
     a.1 ∙ (accepted-after (set_checked (nodes_of t) s) _ (sym (ap refuses a.1) ∙ e)).1
@@ -70,7 +72,7 @@ module _ (u : Renaming) (ns : List Node) (before : List ℕ) where
   out = output_of u ns
 
   abbrev stores : Wrote (List ℕ)
-  stores = stored (Accepted (variables_of u (length ns)) (length out)) (clauses_bytes out) before
+  stores = stored (accepted_with (variables_of u (length ns)) (length out)) (clauses_bytes out) before
 
   under-kept : Kept before (converted_under u ns before)
   under-kept = kept-afterwards (set_checked ns u.set) before _
@@ -80,7 +82,7 @@ module _ (u : Renaming) (ns : List Node) (before : List ℕ) where
     set : refuses (set_checked ns u.set) ≡ false
     sizes : refuses (ceilings (size_of out)) ≡ false
     wrote : converted_under u ns before
-        ≡ record { answer = Accepted (variables_of u (length ns)) (length out); output = over (clauses_bytes out) before }
+        ≡ record { answer = accepted_with (variables_of u (length ns)) (length out); output = over (clauses_bytes out) before }
 
   under-accepted : refuses (converted_under u ns before).answer ≡ false → Written
   under-accepted e =
@@ -94,13 +96,13 @@ module _ (u : Renaming) (ns : List Node) (before : List ℕ) where
 
 -- what a conversion that accepts has passed and written
 pub record Passed (g : Guard) (before : List ℕ) (w : Wrote (List ℕ)) : Type 0 where
-  pub table : checked g.table g.options ≡ Accepted 0 0
+  pub table : checked g.table g.options ≡ accepted_with 0 0
   pub least : g.options ≤ g.taken
   pub most : g.taken ≤ most_options
-  pub set : set_checked (nodes g) g.set ≡ Accepted 0 0
+  pub set : set_checked (nodes g) g.set ≡ accepted_with 0 0
   pub sizes : refuses (ceilings (size_of (output_of (names g) (nodes g)))) ≡ false
   pub wrote : w ≡ record {
-    answer = Accepted (variables_of (names g) (length (nodes g))) (length (output_of (names g) (nodes g)));
+    answer = accepted_with (variables_of (names g) (length (nodes g))) (length (output_of (names g) (nodes g)));
     output = over (written g) before;
   }
 
@@ -156,22 +158,22 @@ module _ (bytes : List ℕ) (v : ℕ) (before : List ℕ) where
   cs = clauses_of bytes
 
   abbrev writes : Wrote (List ℕ)
-  writes = stored (Accepted v (length cs)) (written_text v cs) before
+  writes = stored (accepted_with v (length cs)) (written_text v cs) before
 
   pub write_kept : Kept before (write_call bytes v before)
   write_kept = kept_either (wrong_bytes bytes v) before _ writes (λ e. refl) (kept-stored _ (written_text v cs) before refl)
 
   pub write-accepted : refuses (write_call bytes v before).answer ≡ false → (wrong_bytes bytes v ≡ false)
-      × (write_call bytes v before ≡ record { answer = Accepted v (length cs); output = over (written_text v cs) before })
+      × (write_call bytes v before ≡ record { answer = accepted_with v (length cs); output = over (written_text v cs) before })
   write-accepted e =
-      let x = accepted-right (wrong_bytes bytes v) (record { answer = ClauseBytes; output = before }) writes refl e in
+      let x = accepted-right (wrong_bytes bytes v) (record { answer = Err ClauseBytes; output = before }) writes refl e in
       (x.0, x.1 ∙ stored-over _ (written_text v cs) before (passed x.1 e))
 
 -- reading: a text is in the grammar, or it is refused
 module _ (text before : List ℕ) where
   data Read : Type 0 where
     accepted : (v : ℕ) (ds : List Clause) → Text v ds text
-        → read_call text before ≡ stored (Accepted v (length ds)) (clauses_bytes ds) before → Read
+        → read_call text before ≡ stored (accepted_with v (length ds)) (clauses_bytes ds) before → Read
     refused : (k : ℕ) → read_call text before ≡ record { answer = answer.Text k; output = before } → Read
 
   cases : Read
@@ -190,11 +192,11 @@ module _ (text before : List ℕ) where
       go (refused k q) = subst⁻¹ (Kept before) q (λ e. refl)
 
   pub read-accepted : refuses (read_call text before).answer ≡ false → (v : ℕ) × (ds : List Clause) × Text v ds text
-      × (read_call text before ≡ record { answer = Accepted v (length ds); output = over (clauses_bytes ds) before })
+      × (read_call text before ≡ record { answer = accepted_with v (length ds); output = over (clauses_bytes ds) before })
   read-accepted e = go cases
     where
       go : Read → (v : ℕ) × (ds : List Clause) × Text v ds text
-          × (read_call text before ≡ record { answer = Accepted v (length ds); output = over (clauses_bytes ds) before })
+          × (read_call text before ≡ record { answer = accepted_with v (length ds); output = over (clauses_bytes ds) before })
       go (accepted v ds h q) = (v, ds, h, q ∙ stored-over _ (clauses_bytes ds) before (passed q e))
       go (refused k q) = not-both (sym (passed q e))
 
@@ -225,11 +227,11 @@ module _ (text before : List ℕ) where
 
   pub sat-accepted : refuses (calls.read_call text before).answer ≡ false
       → (v : ℕ) × (t : Tree) × satfile.Text v t text × (tree.size_of t ≤ most_nodes)
-      × (calls.read_call text before ≡ record { answer = Accepted v (tree.size_of t); output = over (tree.table_of t) before })
+      × (calls.read_call text before ≡ record { answer = accepted_with v (tree.size_of t); output = over (tree.table_of t) before })
   sat-accepted e = go formula_cases
     where
       go : Formula → (v : ℕ) × (t : Tree) × satfile.Text v t text × (tree.size_of t ≤ most_nodes)
-          × (calls.read_call text before ≡ record { answer = Accepted v (tree.size_of t); output = over (tree.table_of t) before })
+          × (calls.read_call text before ≡ record { answer = accepted_with v (tree.size_of t); output = over (tree.table_of t) before })
       go (accepted v t h q) =
           let a = accepted-right (ltb most_nodes (tree.size_of t)) _ _ refl (passed q e) in
           (v, t, h, ltb-false most_nodes (tree.size_of t) a.0, q ∙ a.1 ∙ stored-over _ (tree.table_of t) before (passed (q ∙ a.1) e))
@@ -253,20 +255,20 @@ module _ (bytes : List ℕ) (v : ℕ) (before : Outputs) where
 
   pub tidy-accepted : refuses (tidy_call bytes v before).answer ≡ false → (wrong_bytes bytes v ≡ false)
       × (tidy_call bytes v before ≡ record {
-        answer = Accepted (length (changes_of given)) (length (tidied given));
+        answer = accepted_with (length (changes_of given)) (length (tidied given));
         output = record {
           kept = over (clauses_bytes (tidied given)) before.kept;
           lines = over (change_lines (changes_of given)) before.lines;
         };
       })
   tidy-accepted e =
-      let x = accepted-right (wrong_bytes bytes v) (record { answer = ClauseBytes; output = before }) (tidied_into given before) refl e in
+      let x = accepted-right (wrong_bytes bytes v) (record { answer = Err ClauseBytes; output = before }) (tidied_into given before) refl e in
       let y = accepted-right short (record { answer = answer.Room; output = before }) _ refl (passed x.1 e) in
       let k : 0 + length (clauses_bytes (tidied given)) ≡ length (clauses_bytes (tidied given)) = omega arith in
       let l : 0 + length (change_lines (changes_of given)) ≡ length (change_lines (changes_of given)) = omega arith in (
         x.0,
         x.1 ∙ y.1 ∙ (λ i. record {
-          answer = Accepted (length (changes_of given)) (length (tidied given));
+          answer = accepted_with (length (changes_of given)) (length (tidied given));
           output = record {
             kept = clauses_bytes (tidied given) ++ drop (k i) before.kept;
             lines = change_lines (changes_of given) ++ drop (l i) before.lines;

@@ -6,7 +6,7 @@ use mathlib.Core.List.{List, []}
 use Prim.Native.Nat.{ℕ, ◌+◌, ◌<◌}
 use lib.ListN.{length, get_or, take, drop}
 use lib.Seq.{take-append_seam}
-use Rattle.answer.specs.declared.Answer.TheVariants.{Accepted}
+use Rattle.answer.specs.Answers.{accepted_with}
 use Rattle.formula.specs.Checks.{checked}
 use Rattle.formula.specs.Tables.{nodes_of}
 use Rattle.formula.specs.declared.node.Node.{Node}
@@ -42,7 +42,7 @@ converted-clause d k z =
     ∙ ap (λ (cs : List Clause). get_or cs k []) (decoded-same g (convert_seen d).before _ (convert_done d z))
 
 -- lines of a right formula with right lists of names, in a buffer
-module _ (t : List ℕ) (v : ℕ) (s on hn : List ℕ) (table : checked t v ≡ Accepted 0 0) (set : set_checked (nodes_of t) s ≡ Accepted 0 0)
+module _ (t : List ℕ) (v : ℕ) (s on hn : List ℕ) (table : checked t v ≡ accepted_with 0 0) (set : set_checked (nodes_of t) s ≡ accepted_with 0 0)
     (options : right_names v on ≡ true) (helpers : right_names (renamed_below s (length (nodes_of t))) hn ≡ true) where
   abbrev u : Renaming
   u = renaming v s

@@ -9,8 +9,8 @@ use lib.ListN.{length, take, drop}
 use lib.Seq.{take-append_seam}
 use borrow.Author.Tests.{le-ltb}
 use Rattle.answer.specs.Answers.{told_of, Wrote}
-use Rattle.answer.specs.declared.Answer.{Answer}
-use Rattle.answer.specs.declared.Answer.TheVariants.{Accepted}
+use Rattle.answer.specs.Answers.{Answer}
+use Rattle.answer.specs.Answers.{accepted_with}
 use Rattle.clausal.specs.Clauses.{Clause, clauses_bytes}
 use Rattle.clausal.specs.Meanings.{satisfies}
 use Rattle.clausebytes.specs.Words.{wrong_bytes, clauses_of, Right}
@@ -41,16 +41,16 @@ stored-first a kept before h =
 called_again : (v : ℕ) (cs : List Clause) → Right v cs → (before : Outputs) → length (clauses_bytes (tidied cs)) ≤ length before.kept
     → tidy_call (clauses_bytes (tidied cs)) v before
     ≡ record {
-      answer = Accepted 0 (length (tidied cs));
+      answer = accepted_with 0 (length (tidied cs));
       output = record { kept = over (clauses_bytes (tidied cs)) before.kept; lines = before.lines };
     }
 unfolding change_lines
 called_again v cs r before h =
     rw (tidied-written v cs r)
     (ap (λ (ds : List Clause). tidied_into ds before) (tidied-read v cs r)
-    ∙ (λ i. stored_both (Accepted (length (again_silent cs i)) (length (again_kept cs i))) (clauses_bytes (again_kept cs i))
+    ∙ (λ i. stored_both (accepted_with (length (again_silent cs i)) (length (again_kept cs i))) (clauses_bytes (again_kept cs i))
     (change_lines (again_silent cs i)) before)
-    ∙ stored-first (Accepted 0 (length (tidied cs))) (clauses_bytes (tidied cs)) before h)
+    ∙ stored-first (accepted_with 0 (length (tidied cs))) (clauses_bytes (tidied cs)) before h)
 
 -- a call that returned 0
 module _ (c : Tidy) (z : (tidy_seen c).returned ≡ 0) where
@@ -97,7 +97,7 @@ module _ (c : Tidy) (z : (tidy_seen c).returned ≡ 0) where
 
     abbrev left : Wrote Outputs
     left = record {
-      answer = Accepted 0 (length (tidied given));
+      answer = accepted_with 0 (length (tidied given));
       output = record { kept = over (clauses_bytes (tidied given)) before.kept; lines = before.lines };
     }
 
@@ -112,10 +112,10 @@ module _ (c : Tidy) (z : (tidy_seen c).returned ≡ 0) where
         let zeroed : (tidy_seen d).returned ≡ 0 =
         ((tidy_answers d).right_part part).0 ∙ ap (λ (w : Wrote Outputs). (told_of w.answer).number) called in
         let words : left ≡ record {
-          answer = Accepted 0 (length (clauses_of (kept_left c)));
+          answer = accepted_with 0 (length (clauses_of (kept_left c)));
           output = record { kept = over (kept_left c) before.kept; lines = before.lines };
         } = λ i. record {
-          answer = Accepted 0 (length (sym kept_read i));
+          answer = accepted_with 0 (length (sym kept_read i));
           output = record { kept = over (sym kept-is i) before.kept; lines = before.lines };
         } in
         (zeroed, gives (tidy_seen d) (tidy_wrote d) d.promise.0 _ _ _ (zero (tidy_seen d) (tidy_wrote d) d.promise.0 zeroed) (called ∙ words))

@@ -5,8 +5,8 @@ use Rattle.laws.specs.Lists.{Every}
 use Rattle.laws.specs.Automata.{Longest}
 use Rattle.laws.specs.Numbers.{cap}
 use Rattle.answer.specs.Answers.{most_shown, told_of, bytes_of, refused}
-use Rattle.answer.specs.declared.Answer.{Answer}
-use Rattle.answer.specs.declared.Answer.TheVariants.{Accepted}
+use Rattle.answer.specs.Answers.{Answer}
+use Rattle.answer.specs.Answers.{accepted_with}
 use Rattle.formula.specs.Checks.{length_wrong, checked}
 use Rattle.marks.specs.Sets.{renamed}
 use Rattle.formula.specs.Tables.{node_bytes, most_nodes, most_options, node_at, node_count, nodes_of, node_in, fault_of}
@@ -96,7 +96,7 @@ pub record Faults : Type 0 where
 
 -- a call that accepted tells two values, and leaves the outputs so
 pub record Gives {O : Type 0} (s : Seen O) (x y : ℕ) (after : O) : Type 0 where
-  pub values : s.told ≡ bytes_of (told_of (Accepted x y))
+  pub values : s.told ≡ bytes_of (told_of (accepted_with x y))
   pub outputs : s.after ≡ after
 
 -- the bytes of a guard's clauses, and the clauses that these bytes stand for
@@ -151,7 +151,7 @@ pub record Formulas : Type 0 where
   pub many : (c : ReadSat) (v : ℕ) (t : Tree) → formula.Text v t (sat_text c) → most_nodes < size_of t → length (sat_seen c).part ≡ 16
       → (sat_seen c).returned ≡ 18
   -- R21.16: any other text is 17, with the length of the longest beginning that it shares with an accepted one
-  pub refuses : (c : ReadSat) (k : ℕ) → (formula.Accepted (sat_text c) → ⊥) → Longest formula.Accepted (sat_text c) k
+  pub refuses : (c : ReadSat) (k : ℕ) → (formula.accepted_with (sat_text c) → ⊥) → Longest formula.accepted_with (sat_text c) k
       → length (sat_seen c).part ≡ 16 → ((sat_seen c).returned ≡ 17) × ((sat_seen c).told ≡ bytes_of (refused 17 (cap most_shown k)))
   -- R21.22: the table that is left is accepted with the V that is told
   pub passes : (c : ReadSat) (d : Check) → (sat_seen c).returned ≡ 0 → (check_guard d).table ≡ table_left c

@@ -23,8 +23,7 @@ fn class_of(classes: &[u8], byte: u8) -> u8
     requires { classes.now ≡ table }
     ensures { result ≡ code (class_of byte) }
 {
-    let i = byte as usize;
-    classes[i]
+    classes[usize::from(byte)]
 }
 
 // Whether a byte is of a class.
@@ -41,14 +40,7 @@ pub fn is_letter(classes: &[u8], byte: u8, letter: u8) -> bool
     ensures { result ≡ eqb byte letter }
 {
     let class = class_of(classes, byte);
-    let own = class_of(classes, letter);
-    if class != own {
-        return false;
-    }
-    if class == REST {
-        return byte == letter;
-    }
-    true
+    class == class_of(classes, letter) && (class != REST || byte == letter)
 }
 
 // Whether a byte is white space.
@@ -71,17 +63,5 @@ pub fn is_digit(classes: &[u8], byte: u8) -> bool
 pub fn is_space(byte: u8) -> bool
     ensures { result ≡ is_white (class_of byte) }
 {
-    if 32 < byte {
-        return false;
-    }
-    if byte == 32 {
-        return true;
-    }
-    if byte == 9 {
-        return true;
-    }
-    if byte == 10 {
-        return true;
-    }
-    byte == 13
+    matches!(byte, b' ' | b'\t' | b'\n' | b'\r')
 }

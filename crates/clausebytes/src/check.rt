@@ -5,50 +5,47 @@ ghost use Rattle.clausebytes.specs.Inner.Checks.{checked_of};
 use crate::limits::{MOST_CLAUSES, MOST_LITERALS, MOST_VARIABLES};
 use crate::word::{magnitude, word_at};
 
+// How many clauses and literals clause bytes are.
 #[derive(Clone, Copy)]
-pub enum Checked {
-    Wrong,
-    // How many there are of both.
-    Counted { clauses: u32, literals: u32 },
+pub struct Counted {
+    pub clauses: u32,
+    pub literals: u32,
 }
 
 // Whether clause bytes are right under a number of declared variables; and if so, how many clauses and literals they are.
-pub fn check(bytes: &[u8], variables: u32) -> Checked
+pub fn check(bytes: &[u8], variables: u32) -> Option<Counted>
     ensures { result ≡ checked_of bytes.now variables }
 {
     if variables > MOST_VARIABLES {
-        return Checked::Wrong;
+        return None;
     }
     if bytes.len() % 4 != 0 {
-        return Checked::Wrong;
+        return None;
     }
-    let words = bytes.len() / 4;
     let mut closed = true;
     let mut clauses: u32 = 0;
     let mut literals: u32 = 0;
-    let mut i = 0;
-    while i < words {
+    for i in 0..bytes.len() / 4 {
         let word = word_at(bytes, 4 * i);
         if word == 0 {
             if clauses >= MOST_CLAUSES {
-                return Checked::Wrong;
+                return None;
             }
             clauses += 1;
             closed = true;
         } else {
             if magnitude(word) > variables {
-                return Checked::Wrong;
+                return None;
             }
             if literals >= MOST_LITERALS {
-                return Checked::Wrong;
+                return None;
             }
             literals += 1;
             closed = false;
         }
-        i += 1;
     }
     if !closed {
-        return Checked::Wrong;
+        return None;
     }
-    Checked::Counted { clauses, literals }
+    Some(Counted { clauses, literals })
 }

@@ -12,10 +12,7 @@ pub const SIGN: u32 = 2_147_483_648;
 pub fn complement(number: u32) -> u32
     ensures { result ≡ (2 ^ 32 - number) % 2 ^ 32 }
 {
-    if number == 0 {
-        return 0;
-    }
-    4_294_967_295 - (number - 1)
+    number.wrapping_neg()
 }
 
 // The number of a literal.
@@ -39,22 +36,12 @@ pub fn magnitude(word: u32) -> u32
     complement(word)
 }
 
-fn wide(byte: u8) -> u32
-    ensures { (result ≡ byte) × (result < 256) }
-{
-    byte as u32
-}
-
-// The word in the four bytes from `at` on. (Summed up flat, this compiles to one load.)
+// The word in the four bytes from `at` on.
 pub fn word_at(bytes: &[u8], at: usize) -> u32
     requires { at + 4 ≤ length bytes.now }
     ensures { result ≡ little_at 4 bytes.now at }
 {
-    let second = at + 1;
-    let third = second + 1;
-    let fourth = third + 1;
-    let low = wide(bytes[at]) + 256 * wide(bytes[second]);
-    low + 65_536 * wide(bytes[third]) + 16_777_216 * wide(bytes[fourth])
+    u32::from_le_bytes([bytes[at], bytes[at + 1], bytes[at + 2], bytes[at + 3]])
 }
 
 // The bytes that clauses take.

@@ -1,7 +1,7 @@
 -- R9.1 to R9.3, R10.18: the text of a list of clauses, and what the writing call gives. R9.5 to R9.17: the texts that are accepted, by
 -- productions, and the clauses that they stand for.
 -- Assumes nothing: these are definitions.
-use Rattle.std.specs.Prelude.{cond, Bool, true, false, List, [], ◌∷◌, ◌++◌, ℕ, length, ◌≡◌}
+use Rattle.std.specs.Prelude.{cond, Bool, true, false, Some, List, [], ◌∷◌, ◌++◌, ℕ, length, ◌≡◌}
 use Rattle.answer.specs.Answers.{Wrote, stored}
 use Rattle.answer.specs.declared.Answer.TheVariants as answer
 use Rattle.text.specs.Texts.{decimal}
@@ -32,7 +32,7 @@ written_text v cs = header_line v (length cs) ++ lines_of cs
 
 -- R9.7 and R9.8: the header has `cnf`, variables and clauses
 abbrev pub cnf : Form
-cnf = record { first = 99; second = 110; third = 102; pair = true; before = most_variables; last = most_clauses }
+cnf = record { first = 99; second = 110; third = 102; before = Some most_variables; last = most_clauses }
 
 -- R9.9 and R9.12: literals and zeros, and the clauses that they stand for. A literal goes to the clause that what follows closes, so none
 -- is left open. The Bool says whether a literal or a zero may stand here: not right behind another.

@@ -65,11 +65,10 @@ fn cnf_form() -> Form
     ensures { result ≡ cnf }
 {
     Form {
-        first: 99,
-        second: 110,
-        third: 102,
-        pair: true,
-        before: MOST_VARIABLES,
+        first: b'c',
+        second: b'n',
+        third: b'f',
+        before: Some(MOST_VARIABLES),
         last: MOST_CLAUSES,
     }
 }

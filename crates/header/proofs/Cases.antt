@@ -3,16 +3,17 @@
 use mathlib.Core.Path.{◌≡◌, refl}
 use mathlib.Core.Bool.{true, false}
 use mathlib.Core.List.{[], ◌∷◌}
+use Rattle.std.specs.Prelude.{Some, None}
 use Rattle.header.specs.Inner.Heads.{head_of}
 use Rattle.header.specs.declared.Form.{Form}
 use Rattle.header.specs.declared.Phase.TheVariants.{Done, Dead}
 
 -- `sat` and one number up to 99; `cnf` and two, up to 9 and up to 99
 abbrev sat : Form
-sat = record { first = 115; second = 97; third = 116; pair = false; before = 0; last = 99 }
+sat = record { first = 115; second = 97; third = 116; before = None; last = 99 }
 
 abbrev cnf : Form
-cnf = record { first = 99; second = 110; third = 102; pair = true; before = 9; last = 99 }
+cnf = record { first = 99; second = 110; third = 102; before = Some 9; last = 99 }
 
 -- `p sat 42\n(`: over with the newline
 one_number : head_of sat (112 ∷ 32 ∷ 115 ∷ 97 ∷ 116 ∷ 32 ∷ 52 ∷ 50 ∷ 10 ∷ 40 ∷ [])

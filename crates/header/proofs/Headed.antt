@@ -13,7 +13,7 @@ use Rattle.text.specs.Texts.{decimal}
 use Rattle.text.proofs.Laws.Decimals.{decimal-some}
 use Rattle.text.proofs.Laws.Numbers.{More, here, digit}
 use Rattle.header.specs.Heads as grammar
-use Rattle.header.specs.Heads.{Remark, Gap, Blanks, Byte, Numbers, Opening, Headed}
+use Rattle.header.specs.Heads.{Remark, Gap, Blanks, Byte, Numbers, Opening, Headed, most_before}
 use Rattle.header.specs.Inner.Heads.{is_blank, is_done, start_of, step_of, head_of}
 use Rattle.header.specs.declared.Form.{Form}
 use Rattle.header.specs.declared.Head.{Head}
@@ -85,7 +85,7 @@ module _ (f : Form) (letter : is_blank f.first ≡ false) where
   kept s (b ∷ t) k = kept (step_of f s b) t (kept_step f s b k)
 
   -- the numbers of a head that is read are within their limits
-  pub head_within : (t : List ℕ) → is_done (head_of f t).phase ≡ true → ((head_of f t).before ≤ f.before) × ((head_of f t).value ≤ f.last)
+  pub head_within : (t : List ℕ) → is_done (head_of f t).phase ≡ true → ((head_of f t).before ≤ most_before f) × ((head_of f t).value ≤ f.last)
   head_within t e =
       let k = kept (start_of f) t (kept-start f) in
       (k.earlier, kept-last f (head_of f t) k e)
@@ -131,7 +131,7 @@ module _ (f : Form) (letter : is_blank f.first ≡ false) where
         subst⁻¹ (λ (n : ℕ). Longest (Headed f Next) t (n + k)) place
         (longest_stopped (head_reader f Next letter) (start_of f) t (kept-start f) e w)
 
-    pub head_dies : ((m n : ℕ) → m ≤ f.before → n ≤ f.last → Begins (Next m n) []) → is_done end.phase ≡ false
+    pub head_dies : ((m n : ℕ) → m ≤ most_before f → n ≤ f.last → Begins (Next m n) []) → is_done end.phase ≡ false
         → Longest (Headed f Next) t end.place
     head_dies every e =
         subst⁻¹ (Longest (Headed f Next) t) place

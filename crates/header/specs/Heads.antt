@@ -1,7 +1,7 @@
 -- R9.5 to R9.8, R9.10, R9.11 and R9.13: comments and a header, by productions, and white space.
 -- Each family says what may stand in a place of a text, and takes what may follow.
 -- Assumes nothing: these are definitions.
-use Rattle.std.specs.Prelude.{Bool, true, false, not, List, ◌∷◌, ◌++◌, ◌≡◌, ℕ, ◌≤◌}
+use Rattle.std.specs.Prelude.{Bool, true, false, is_none, unwrap_or, List, ◌∷◌, ◌++◌, ◌≡◌, ℕ, ◌≤◌}
 use Rattle.text.specs.Texts.{decimal}
 use Rattle.header.specs.declared.Form.{Form}
 
@@ -40,6 +40,10 @@ Word f Next = Byte f.first (Byte f.second (Byte f.third Next))
 pub data Number (most : ℕ) (Next : ℕ → List ℕ → Type 0) : List ℕ → Type 0 where
   number : {n : ℕ} {r : List ℕ} → n ≤ most → Next n r → Number most Next (decimal n ++ r)
 
+-- R9.7: the limit of the number before the last one; 0 where there is no such number
+abbrev pub most_before : Form → ℕ
+most_before f = unwrap_or f.before 0
+
 -- R9.7: the last number, and the end of the line
 abbrev pub LastNumber : Form → (ℕ → List ℕ → Type 0) → List ℕ → Type 0
 LastNumber f Next = Number f.last (λ n. Gap (Byte 10 (Next n)))
@@ -47,7 +51,7 @@ LastNumber f Next = Number f.last (λ n. Gap (Byte 10 (Next n)))
 -- R9.7: the numbers that come: the last one, behind m; or one more before it
 abbrev pub Numbers : Form → (ℕ → ℕ → List ℕ → Type 0) → Bool → ℕ → List ℕ → Type 0
 Numbers f Next true m = LastNumber f (Next m)
-Numbers f Next false m = Number f.before (λ n. Blanks (LastNumber f (Next n)))
+Numbers f Next false m = Number (most_before f) (λ n. Blanks (LastNumber f (Next n)))
 
 -- R9.5 to R9.7: comments, then `p` and the word, and then the numbers
 pub data Opening (f : Form) (Next : List ℕ → Type 0) : List ℕ → Type 0 where
@@ -56,4 +60,4 @@ pub data Opening (f : Form) (Next : List ℕ → Type 0) : List ℕ → Type 0 w
 
 -- R9.5: a text with such a head, and behind it what may follow its two numbers; of one number alone the first of the two is 0
 abbrev pub Headed : Form → (ℕ → ℕ → List ℕ → Type 0) → List ℕ → Type 0
-Headed f Next = Opening f (Numbers f Next (not f.pair) 0)
+Headed f Next = Opening f (Numbers f Next (is_none f.before) 0)

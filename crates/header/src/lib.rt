@@ -4,12 +4,12 @@
 ghost use Rattle.std.specs.Prelude.{◌≡◌, ◌<◌, eqb};
 ghost use Rattle.text.specs.Inner.Numbers.{is_digit};
 ghost use Rattle.classes.specs.Inner.Classes.{table};
-ghost use Rattle.header.specs.Inner.Heads.{last_place, is_blank, is_done, is_over, is_comment_at, is_comment, start_of, to_of, dead_of, go_of};
+ghost use Rattle.header.specs.Inner.Heads.{last_place, is_blank, is_done, is_over, is_comment, start_of, to_of, dead_of, go_of};
 ghost use Rattle.header.specs.Inner.Heads.{taken_of, most_of, line_of, comment_of, before_word_of, before_number_of, space_of, number_in};
 ghost use Rattle.header.specs.Inner.Heads.{after_of, step_at, step_of, head_of, Ready, ReadyFor, ReadyIn, Readable};
 
 use classes::{BLANK, NEWLINE, is_letter, is_of};
-use text::number::{Number, digit_of, grown};
+use text::number::{digit_of, grown};
 
 // Where in the head the reader is.
 #[derive(Clone, Copy)]
@@ -51,10 +51,9 @@ pub struct Form {
     pub first: u8,
     pub second: u8,
     pub third: u8,
-    // Whether a number stands before the last one.
-    pub pair: bool,
-    // The limit of the number before the last one, and of the last one.
-    pub before: u32,
+    // The limit of the number before the last one, where there is such a number.
+    pub before: Option<u32>,
+    // The limit of the last number.
     pub last: u32,
 }
 
@@ -95,24 +94,6 @@ fn is_digit(classes: &[u8], byte: u8) -> bool
     classes::is_digit(classes, byte)
 }
 
-// Whether a spot is in a comment.
-fn is_comment_at(spot: Spot) -> bool
-    ensures { result ≡ is_comment_at spot }
-{
-    match spot {
-        Spot::Line => false,
-        Spot::Comment => true,
-        Spot::Problem => false,
-        Spot::BeforeWord => false,
-        Spot::Second => false,
-        Spot::Third => false,
-        Spot::Word => false,
-        Spot::BeforeNumber => false,
-        Spot::Number => false,
-        Spot::After => false,
-    }
-}
-
 impl Head {
     // Before the first byte.
     pub fn start(form: Form) -> Head
@@ -123,7 +104,7 @@ impl Head {
             place: 0,
             value: 0,
             before: 0,
-            last: !form.pair,
+            last: form.before.is_none(),
         }
     }
 
@@ -131,36 +112,21 @@ impl Head {
     pub fn is_done(self) -> bool
         ensures { result ≡ is_done self.phase }
     {
-        let phase = self.phase;
-        match phase {
-            Phase::At(_) => false,
-            Phase::Done => true,
-            Phase::Dead => false,
-        }
+        matches!(self.phase, Phase::Done)
     }
 
     // Whether nothing more is read: the header is, or no accepted text begins so.
     fn is_over(self) -> bool
         ensures { result ≡ is_over self.phase }
     {
-        let phase = self.phase;
-        match phase {
-            Phase::At(_) => false,
-            Phase::Done => true,
-            Phase::Dead => true,
-        }
+        matches!(self.phase, Phase::Done | Phase::Dead)
     }
 
     // Whether the head is in a comment.
     fn is_comment(self) -> bool
         ensures { result ≡ is_comment self.phase }
     {
-        let phase = self.phase;
-        match phase {
-            Phase::At(spot) => is_comment_at(spot),
-            Phase::Done => false,
-            Phase::Dead => false,
-        }
+        matches!(self.phase, Phase::At(Spot::Comment))
     }
 
     // One byte on, to a phase.
@@ -171,9 +137,7 @@ impl Head {
         Head {
             phase,
             place: self.place + 1,
-            value: self.value,
-            before: self.before,
-            last: self.last,
+            ..self
         }
     }
 
@@ -183,10 +147,7 @@ impl Head {
     {
         Head {
             phase: Phase::Dead,
-            place: self.place,
-            value: self.value,
-            before: self.before,
-            last: self.last,
+            ..self
         }
     }
 
@@ -195,25 +156,19 @@ impl Head {
         requires { self.place < last_place }
         ensures { result ≡ go_of self right phase }
     {
-        if right {
-            return self.to(phase);
-        }
-        self.dead()
+        if right { self.to(phase) } else { self.dead() }
     }
 
     // A digit was taken in, or could not be.
-    fn taken(self, number: Number) -> Head
+    fn taken(self, number: Option<u32>) -> Head
         requires { self.place < last_place }
         ensures { result ≡ taken_of self number }
     {
         match number {
-            Number::Wrong => self.dead(),
-            Number::Is(value) => Head {
-                phase: Phase::At(Spot::Number),
-                place: self.place + 1,
+            None => self.dead(),
+            Some(value) => Head {
                 value,
-                before: self.before,
-                last: self.last,
+                ..self.to(Phase::At(Spot::Number))
             },
         }
     }
@@ -225,7 +180,7 @@ impl Head {
         if self.last {
             return form.last;
         }
-        form.before
+        form.before.unwrap_or(0)
     }
 
     // At the start of a line.
@@ -233,10 +188,10 @@ impl Head {
         requires { Ready classes.now self.place }
         ensures { result ≡ line_of self byte }
     {
-        if is_letter(classes, byte, 99) {
+        if is_letter(classes, byte, b'c') {
             return self.to(Phase::At(Spot::Comment));
         }
-        self.go(is_letter(classes, byte, 112), Phase::At(Spot::Problem))
+        self.go(is_letter(classes, byte, b'p'), Phase::At(Spot::Problem))
     }
 
     // In a comment.
@@ -347,11 +302,9 @@ impl Head {
         requires { ReadyIn classes.now form self.place }
         ensures { result ≡ step_of form self byte }
     {
-        let phase = self.phase;
-        match phase {
+        match self.phase {
             Phase::At(spot) => self.step_at(spot, classes, byte, form),
-            Phase::Done => self,
-            Phase::Dead => self,
+            Phase::Done | Phase::Dead => self,
         }
     }
 }
@@ -370,8 +323,7 @@ pub fn read(classes: &[u8], text: &[u8], form: Form) -> Head
         head = head.step(classes, text[place], form);
         // A comment has a loop of its own: the compiler makes a short one of it.
         while head.place < text.len() && head.is_comment() {
-            let at = head.place;
-            head = head.comment(classes, text[at]);
+            head = head.comment(classes, text[head.place]);
         }
     }
     head

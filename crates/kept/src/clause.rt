@@ -33,11 +33,8 @@ fn put_literal(
         return put_change(lines, pen, clause, Cause::Literal, position);
     }
     Pen {
-        writing: pen.writing,
         kept: put_word(pen.writing, out, pen.kept, word),
-        lines: pen.lines,
-        clauses: pen.clauses,
-        changes: pen.changes,
+        ..pen
     }
 }
 
@@ -58,10 +55,8 @@ fn put_literals(
         out.new lines.new result
         × (row.new ≡ with_bits (codes_of (clause_from bytes.now from)) row.old) }
 {
-    let words = bytes.len() / 4;
     let mut drawn = pen;
-    let mut i = from;
-    while i < words {
+    for i in from..bytes.len() / 4 {
         let word = word_at(bytes, 4 * i);
         if word == 0 {
             return drawn;
@@ -70,7 +65,6 @@ fn put_literals(
         let seen = bits::has(row, n);
         drawn = put_literal(seen, word, clause, (i - from) as u32, out, lines, drawn);
         bits::put(row, n, true);
-        i += 1;
     }
     drawn
 }
@@ -95,11 +89,9 @@ fn put_clause(
     let drawn = put_literals(bytes, from, clause, out, lines, row, pen);
     wipe(bytes, from, row);
     Pen {
-        writing: drawn.writing,
         kept: put_word(drawn.writing, out, drawn.kept, 0),
-        lines: drawn.lines,
         clauses: drawn.clauses + 1,
-        changes: drawn.changes,
+        ..drawn
     }
 }
 

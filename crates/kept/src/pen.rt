@@ -43,26 +43,16 @@ pub fn put_word(writing: bool, out: &mut [u8], at: usize, word: u32) -> usize
     at + 4
 }
 
-// How many bytes the word of a cause has, with a tab before it and one behind it.
-fn cause_width(cause: Cause) -> usize
-    ensures { result ≡ length (cause_text cause) }
-{
-    match cause {
-        Cause::Literal => 9,
-        Cause::Tautology => 11,
-        Cause::Repeat => 8,
-    }
-}
-
-// Writes the word of a cause and both tabs, and returns the next place.
-fn put_cause(lines: &mut [u8], at: usize, cause: Cause) -> usize
-    requires { at + length (cause_text cause) ≤ length lines.old }
-    ensures { Stored (cause_text cause) lines.old at result lines.new }
-{
-    match cause {
-        Cause::Literal => put_bytes(lines, at, b"\tliteral\t"),
-        Cause::Tautology => put_bytes(lines, at, b"\ttautology\t"),
-        Cause::Repeat => put_bytes(lines, at, b"\trepeat\t"),
+impl Cause {
+    // The word of a cause, with a tab before it and one behind it.
+    fn text(self) -> &'static [u8]
+        ensures { result.now ≡ cause_text self }
+    {
+        match self {
+            Cause::Literal => b"\tliteral\t",
+            Cause::Tautology => b"\ttautology\t",
+            Cause::Repeat => b"\trepeat\t",
+        }
     }
 }
 
@@ -78,11 +68,12 @@ fn put_line(
     requires { Puttable (line_for clause cause number) writing lines.old at }
     ensures { Put (line_for clause cause number) writing lines.old at result lines.new }
 {
+    let text = cause.text();
     if !writing {
-        return at + (width(clause) + (cause_width(cause) + (width(number) + 1)));
+        return at + (width(clause) + (text.len() + (width(number) + 1)));
     }
     let word = put_number(lines, at, clause);
-    let last = put_cause(lines, word, cause);
+    let last = put_bytes(lines, word, text);
     put_field(lines, last, number, 10)
 }
 
@@ -92,10 +83,8 @@ pub fn put_change(lines: &mut [u8], pen: Pen, clause: u32, cause: Cause, number:
     ensures { Told (change_for clause cause number ∷ []) lines.old pen lines.new result }
 {
     Pen {
-        writing: pen.writing,
-        kept: pen.kept,
         lines: put_line(pen.writing, lines, pen.lines, clause, cause, number),
-        clauses: pen.clauses,
         changes: pen.changes + 1,
+        ..pen
     }
 }

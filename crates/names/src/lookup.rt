@@ -3,37 +3,36 @@ ghost use Rattle.std.specs.Prelude.{◌≡◌};
 ghost use Rattle.names.specs.Names.{name_in};
 ghost use Rattle.names.specs.Inner.Notes.{Within, Findable, Looked, found_in, place_of};
 
+use crate::list::Notes;
 use text::piece::find;
 
 // Where name `j` of a list begins. The walk goes on from the last name found where `j` is not below it, or from the last
 // 32nd name, whichever is nearer.
-fn start_of(list: &[u8], notes: &mut [usize; 1024], j: usize) -> usize
+fn start_of(list: &[u8], notes: &mut Notes, j: usize) -> usize
     requires { Within list.now notes.old j }
     ensures { (result ≡ place_of list.now j) × (notes.new ≡ found_in list.now notes.old j) }
 {
-    let mut i = j - j % 32;
-    let mut at = notes[j / 32];
-    let last = notes[1022];
-    if i < last && last <= j {
-        i = last;
-        at = notes[1023];
+    let mut first = j - j % 32;
+    let mut at = notes.begins[j / 32];
+    if first < notes.last && notes.last <= j {
+        first = notes.last;
+        at = notes.at;
     }
-    while i < j {
-        at = find(list, at, 10) + 1;
-        i += 1;
+    for _i in first..j {
+        at = find(list, at, b'\n') + 1;
     }
-    notes[1022] = j;
-    notes[1023] = at;
+    notes.last = j;
+    notes.at = at;
     at
 }
 
 // Name `j` of a list, as a part of it.
-fn name_in<'a>(list: &'a [u8], notes: &mut [usize; 1024], j: usize) -> &'a [u8]
+fn name_in<'a>(list: &'a [u8], notes: &mut Notes, j: usize) -> &'a [u8]
     requires { Within list.now notes.old j }
     ensures { (result.now ≡ name_in list.now j) × (notes.new ≡ found_in list.now notes.old j) }
 {
     let start = start_of(list, notes, j);
-    let end = find(list, start, 10);
+    let end = find(list, start, b'\n');
     &list[start..end]
 }
 
@@ -41,8 +40,8 @@ fn name_in<'a>(list: &'a [u8], notes: &mut [usize; 1024], j: usize) -> &'a [u8]
 pub fn lookup<'a>(
     options: &'a [u8],
     helpers: &'a [u8],
-    option_notes: &mut [usize; 1024],
-    helper_notes: &mut [usize; 1024],
+    option_notes: &mut Notes,
+    helper_notes: &mut Notes,
     v: usize,
     n: usize,
 ) -> &'a [u8]

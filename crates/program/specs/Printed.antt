@@ -5,7 +5,7 @@ use Rattle.laws.specs.Inner.Stores.{Stored}
 use Rattle.laws.specs.Numbers.{cap}
 use Rattle.text.specs.Texts.{decimal}
 use Rattle.answer.specs.Answers.{told_of, refuses, most_shown}
-use Rattle.answer.specs.declared.Answer.{Answer}
+use Rattle.answer.specs.Answers.{Answer}
 use Rattle.formula.specs.Checks.{checked}
 use Rattle.formula.specs.Tables.{nodes_of}
 use Rattle.clausal.specs.Choosing.{choose}

@@ -10,9 +10,5 @@ pub fn code(word: u32, turned: bool) -> usize
     requires { (literal_of word).variable ≤ most_variables }
     ensures { result ≡ code_of (turned_by turned (literal_of word)) }
 {
-    let even = 2 * magnitude(word) as usize;
-    if (word < SIGN) == turned {
-        return even + 1;
-    }
-    even
+    2 * magnitude(word) as usize + usize::from((word < SIGN) == turned)
 }

@@ -23,10 +23,8 @@ pub fn mark(bytes: &[u8], from: usize, seed: u32, row: &mut [u8]) -> u64
     ensures { (result ≡ sign_of seed (clause_from bytes.now from))
         × (row.new ≡ with_bits (codes_of (clause_from bytes.now from)) row.old) }
 {
-    let words = bytes.len() / 4;
     let mut sign: u64 = 0;
-    let mut i = from;
-    while i < words {
+    for i in from..bytes.len() / 4 {
         let word = word_at(bytes, 4 * i);
         if word == 0 {
             return sign;
@@ -36,7 +34,6 @@ pub fn mark(bytes: &[u8], from: usize, seed: u32, row: &mut [u8]) -> u64
             sign += mix(seed, n);
         }
         bits::put(row, n, true);
-        i += 1;
     }
     sign
 }
@@ -46,16 +43,13 @@ pub fn wipe(bytes: &[u8], from: usize, row: &mut [u8])
     requires { Legible bytes.now row.old }
     ensures { row.new ≡ wiped (codes_of (clause_from bytes.now from)) row.old }
 {
-    let words = bytes.len() / 4;
-    let mut i = from;
-    while i < words {
+    for i in from..bytes.len() / 4 {
         let word = word_at(bytes, 4 * i);
         if word == 0 {
             return;
         }
         let at = code(word, false) / 8;
         row[at] = 0;
-        i += 1;
     }
 }
 
@@ -64,9 +58,7 @@ pub fn some_is(bytes: &[u8], from: usize, turned: bool, row: &[u8]) -> bool
     requires { Legible bytes.now row.now }
     ensures { result ≡ some_is row.now turned (clause_from bytes.now from) }
 {
-    let words = bytes.len() / 4;
-    let mut i = from;
-    while i < words {
+    for i in from..bytes.len() / 4 {
         let word = word_at(bytes, 4 * i);
         if word == 0 {
             return false;
@@ -74,7 +66,6 @@ pub fn some_is(bytes: &[u8], from: usize, turned: bool, row: &[u8]) -> bool
         if bits::has(row, code(word, turned)) == turned {
             return true;
         }
-        i += 1;
     }
     false
 }

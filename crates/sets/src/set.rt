@@ -10,15 +10,12 @@ use clausebytes::word::word_at;
 pub fn end_of(bytes: &[u8], from: usize) -> usize
     ensures { result ≡ end_from bytes.now from }
 {
-    let words = bytes.len() / 4;
-    let mut i = from;
-    while i < words {
+    for i in from..bytes.len() / 4 {
         if word_at(bytes, 4 * i) == 0 {
             return i;
         }
-        i += 1;
     }
-    i
+    from.max(bytes.len() / 4)
 }
 
 // Whether a literal of clause a is missing in clause b; or, where they are turned, whether the negation of one is there.
@@ -39,10 +36,7 @@ pub fn is_same(bytes: &[u8], a: usize, b: usize, row: &mut [u8]) -> bool
     ensures { (result ≡ same_literals (clause_from bytes.now a) (clause_from bytes.now b))
         × (row.new ≡ row.old) }
 {
-    if some_of(bytes, a, b, false, row) {
-        return false;
-    }
-    !some_of(bytes, b, a, false, row)
+    !some_of(bytes, a, b, false, row) && !some_of(bytes, b, a, false, row)
 }
 
 // Whether a clause has a literal and its negation.

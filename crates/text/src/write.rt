@@ -19,12 +19,9 @@ pub fn put_bytes(text: &mut [u8], at: usize, bytes: &[u8]) -> usize
     requires { at + length bytes.now ≤ length text.old }
     ensures { Stored bytes.now text.old at result text.new }
 {
-    let mut i = 0;
-    while i < bytes.len() {
-        text[at + i] = bytes[i];
-        i += 1;
-    }
-    at + i
+    let end = at + bytes.len();
+    text[at..end].copy_from_slice(bytes);
+    end
 }
 
 // Writes a number in decimal, from its last digit to its first, and returns the next place.
@@ -34,13 +31,10 @@ pub fn put_number(text: &mut [u8], at: usize, number: u32) -> usize
 {
     let end = at + width(number);
     let mut rest = number;
-    let mut i = end - 1;
-    while rest >= 10 {
-        text[i] = 48 + (rest % 10) as u8;
-        rest = rest / 10;
-        i -= 1;
+    for i in (at..end).rev() {
+        text[i] = b'0' + (rest % 10) as u8;
+        rest /= 10;
     }
-    text[i] = 48 + rest as u8;
     end
 }
 

@@ -7,8 +7,8 @@ mod window;
 ghost use Rattle.std.specs.Prelude.{◌≡◌};
 ghost use Rattle.tidied.specs.Calls.{tidy_call};
 
-use answer::Answer;
-use clausebytes::check::{Checked, check};
+use answer::{Accepted, Answer, Refusal};
+use clausebytes::check::check;
 use pass::put_all;
 
 // Tidies clause bytes with `variables` declared: the numbers of changes and of kept clauses are reported.
@@ -16,24 +16,16 @@ pub fn tidy(clauses: &[u8], variables: u32, out: &mut [u8], changes: &mut [u8]) 
     ensures { record { answer = result; output = record { kept = out.new; lines = changes.new } }
         ≡ tidy_call clauses.now variables (record { kept = out.old; lines = changes.old }) }
 {
-    match check(clauses, variables) {
-        Checked::Wrong => Answer::ClauseBytes,
-        Checked::Counted {
-            clauses: count,
-            literals: _,
-        } => {
-            let measured = put_all(clauses, variables, count, false, out, changes);
-            if out.len() < measured.kept {
-                return Answer::Room;
-            }
-            if changes.len() < measured.lines {
-                return Answer::Room;
-            }
-            put_all(clauses, variables, count, true, out, changes);
-            Answer::Accepted {
-                first: measured.changes,
-                second: measured.clauses,
-            }
-        }
+    let Some(counted) = check(clauses, variables) else {
+        return Err(Refusal::ClauseBytes);
+    };
+    let measured = put_all(clauses, variables, counted.clauses, false, out, changes);
+    if out.len() < measured.kept || changes.len() < measured.lines {
+        return Err(Refusal::Room);
     }
+    put_all(clauses, variables, counted.clauses, true, out, changes);
+    Ok(Accepted {
+        first: measured.changes,
+        second: measured.clauses,
+    })
 }

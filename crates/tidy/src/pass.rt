@@ -37,13 +37,10 @@ fn put_window(
 {
     let mut drawn = pen;
     let mut at = place;
-    let mut number = start;
-    let mut i = 0;
-    while i < count {
+    for i in 0..count {
+        let number = start + i as u32;
         drawn = put_fate(bytes, at, number, firsts[i], out, lines, row, drawn);
         at = end_of(bytes, at) + 1;
-        number += 1;
-        i += 1;
     }
     Walked {
         place: at,
@@ -55,10 +52,7 @@ fn put_window(
 fn window_size(left: u32) -> usize
     ensures { result ≡ cond (ltb left most) left most }
 {
-    if left < 1_024 {
-        return left as usize;
-    }
-    1_024
+    left.min(1_024) as usize
 }
 
 // Puts what is kept of all clauses, and the lines of what goes.

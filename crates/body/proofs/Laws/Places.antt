@@ -1,13 +1,11 @@
 -- The place of the reader behind a header: each byte goes one place on, or is the end, and what is dead stays.
 -- Assumes nothing.
-use mathlib.Core.Path.{◌≡◌, refl, sym, ap, ◌∙◌, subst⁻¹}
+use mathlib.Core.Path.{◌≡◌, refl, sym, ap, ◌∙◌}
 use mathlib.Core.Bool.{Bool, true, false, cond, false≢true}
-use Prim.Native.Nat.{ℕ, ◌+◌, ◌-◌, ◌≤◌}
-use native.Mathlib.Omega.{arith}
+use Prim.Native.Nat.{ℕ, ◌+◌, ◌-◌}
 use lib.Dec.{eqb, ltb}
 use Rattle.text.specs.Inner.Numbers.{grown_of}
-use Rattle.text.specs.declared.number.Number.{Number}
-use Rattle.text.specs.declared.number.Number.TheVariants.{Wrong, Is}
+use Rattle.std.specs.Prelude.{Option, Some, None}
 use Rattle.header.proofs.Laws.Readers.{Placed}
 use Rattle.clausebytes.specs.Words.{most_literals}
 use Rattle.body.specs.Inner.Table.{sort_of, act_of, Act, Die, Go, Close, Begin, Turn, Lead, Grow, EndPlain, EndNegated}
@@ -42,13 +40,13 @@ module _ (s : State) where
   opened p x h =
       either (ltb s.clauses s.declared) _ (dead_of s) (either (ltb s.literals most_literals) _ (dead_of s) (on h refl) off) off
 
-  taken : (p : Phase) → alive p ≡ true → (z : Number) → Moved s (taken_of s p z)
-  taken p h Wrong = off
-  taken p h (Is x) = on h refl
+  taken : (p : Phase) → alive p ≡ true → (z : Option ℕ) → Moved s (taken_of s p z)
+  taken p h None = off
+  taken p h (Some x) = on h refl
 
-  begun : (z : Number) → Moved s (begun_of s z)
-  begun Wrong = off
-  begun (Is x) = opened Plain x refl
+  begun : (z : Option ℕ) → Moved s (begun_of s z)
+  begun None = off
+  begun (Some x) = opened Plain x refl
 
   moved : (a : Act) (d : ℕ) → live_state s ≡ true → Moved s (move_of a s d)
   moved Die d h = off

@@ -1,10 +1,8 @@
 -- The reader's state behind the header, and one byte on: its running place, clause number and literal total.
 -- A limit ends a reading at the first byte after which no text can be finished any more.
 -- Assumes nothing: these are definitions.
-use Rattle.std.specs.Prelude.{Bool, true, false, cond, ℕ, ◌+◌, ◌-◌, ◌≤◌, ◌<◌, eqb, ltb}
+use Rattle.std.specs.Prelude.{Bool, true, false, cond, ℕ, ◌+◌, ◌-◌, ◌≤◌, ◌<◌, eqb, ltb, Option, Some, None}
 use Rattle.text.specs.Inner.Numbers.{grown_of}
-use Rattle.text.specs.declared.number.Number.{Number}
-use Rattle.text.specs.declared.number.Number.TheVariants.{Wrong, Is}
 use Rattle.header.specs.Inner.Heads.{last_place}
 use Rattle.clausebytes.specs.Words.{most_literals}
 use Rattle.body.specs.Inner.Table.{sort_of, act_of, ends_in}
@@ -46,9 +44,9 @@ dead_of s = record {
 }
 
 -- a digit was taken in, or could not be
-abbrev pub taken_of : State → Phase → Number → State
-taken_of s p Wrong = dead_of s
-taken_of s p (Is x) = to_of s p x
+abbrev pub taken_of : State → Phase → Option ℕ → State
+taken_of s p None = dead_of s
+taken_of s p (Some x) = to_of s p x
 
 -- a zero, if a clause is still to come
 abbrev pub close_of : State → State
@@ -75,9 +73,9 @@ open_of s p x = cond (ltb s.clauses s.declared) (cond (ltb s.literals most_liter
 }) (dead_of s)) (dead_of s)
 
 -- its first digit was taken in, or could not be; its `-`, which needs a variable
-abbrev pub begun_of : State → Number → State
-begun_of s Wrong = dead_of s
-begun_of s (Is x) = open_of s Plain x
+abbrev pub begun_of : State → Option ℕ → State
+begun_of s None = dead_of s
+begun_of s (Some x) = open_of s Plain x
 
 abbrev pub turn_of : State → State
 turn_of s = cond (eqb s.variables 0) (dead_of s) (open_of s Sign 0)

@@ -5,13 +5,16 @@ use Prim.Native.Nat.{ℕ}
 use native.Mathlib.Omega.{arith}
 use borrow.Author.Rules.{rules}
 use lib.ListN.{length, get_or}
+use Rattle.classes.specs.Inner.Classes.{table}
 use Rattle.classes.proofs.Laws.Classes.{length-table, table_at}
 use Rattle.classes.proofs.class_of.Goals as goal
 
-pub bounds-classes-i : goal.bounds-classes-i
-bounds-classes-i c =
+pub bounds-classes-from : goal.bounds-classes-from
+bounds-classes-from c =
     omega (arith, ap length c.requires, length-table)
 
 pub returns : goal.returns
 returns c =
-    ap (λ (l : List ℕ). get_or l c.args.byte 0) c.requires ∙ table_at c.args.byte (search rules)
+    ap (λ (l : List ℕ). get_or l c.from.result 0) c.requires
+    ∙ ap (λ (n : ℕ). get_or table n 0) c.from.ensures
+    ∙ table_at c.args.byte (search rules)

@@ -11,9 +11,14 @@ use Rattle.clausal.specs.Totals.{literals_in}
 use Rattle.clausebytes.specs.Words.{words_of, literal_of, clauses_of, most_variables, most_clauses, most_literals, closed_from, all_within}
 use Rattle.clausebytes.specs.Words.{wrong_bytes}
 use Rattle.clausebytes.specs.Inner.Checks.{checked_of}
-use Rattle.clausebytes.specs.declared.check.Checked.TheVariants.{Wrong, Counted}
+use Rattle.std.specs.Prelude.{Option, Some, None}
+use Rattle.clausebytes.specs.declared.check.Counted.{Counted}
 use Rattle.clausebytes.proofs.Laws.Stand.{stand, zeros_in, others_in, count-stand, literals-stand, words_stand}
 use Rattle.clausebytes.proofs.Laws.Wrong.{RightBytes, not_wrong, right_of_not_wrong, wrong_of_fault}
+
+-- what the check finds in right bytes
+abbrev pub counted : ℕ → ℕ → Option Counted
+counted clauses literals = Some (record { clauses = clauses; literals = literals })
 
 -- of the words ws, `rest` is still to be looked at
 pub record Checking (v : ℕ) (ws rest : List ℕ) (closed : Bool) (clauses literals : ℕ) : Type 0 where
@@ -43,13 +48,13 @@ module _ (bytes : List ℕ) (v : ℕ) where
   others_right r = omega (arith, literals-stand (stand true (words_of bytes) r.last), r.literals)
 
   -- what is concluded from a fault
-  found-wrong : (RightBytes bytes v → ⊥) → Wrong ≡ checked_of bytes v
+  found-wrong : (RightBytes bytes v → ⊥) → None ≡ checked_of bytes v
   found-wrong n = rw (wrong_of_fault bytes v n)
 
-  pub found-many : most_variables < v → Wrong ≡ checked_of bytes v
+  pub found-many : most_variables < v → None ≡ checked_of bytes v
   found-many h = found-wrong (λ r. omega (arith, r.variables))
 
-  pub found_part : (length bytes % 4 ≡ 0 → ⊥) → Wrong ≡ checked_of bytes v
+  pub found_part : (length bytes % 4 ≡ 0 → ⊥) → None ≡ checked_of bytes v
   found_part h = found-wrong (λ r. h r.whole)
 
   -- a word is looked at
@@ -88,19 +93,19 @@ module _ (bytes : List ℕ) (v : ℕ) where
         }
 
     -- a clause too many, a magnitude over the variables, a literal too many
-    pub found-clause : w ≡ 0 → most_clauses ≤ clauses → Wrong ≡ checked_of bytes v
+    pub found-clause : w ≡ 0 → most_clauses ≤ clauses → None ≡ checked_of bytes v
     unfolding zeros_in
     found-clause e h =
         let z : zeros_in (w ∷ rest) ≡ suc (zeros_in rest) = rw (eq-eqb w 0 e) in
         found-wrong (λ r. omega (arith, k.zeros, zeros-right r))
 
-    pub found-magnitude : v < (literal_of w).variable → Wrong ≡ checked_of bytes v
+    pub found-magnitude : v < (literal_of w).variable → None ≡ checked_of bytes v
     unfolding all_within
     found-magnitude h =
         let over : all_within v (words_of bytes) ≡ false = k.within ∙ rw (lt-ltb v (literal_of w).variable h) in
         found-wrong (λ r. false≢true (sym over ∙ r.within))
 
-    pub found-literal : (w ≡ 0 → ⊥) → most_literals ≤ literals → Wrong ≡ checked_of bytes v
+    pub found-literal : (w ≡ 0 → ⊥) → most_literals ≤ literals → None ≡ checked_of bytes v
     unfolding others_in
     found-literal e h =
         let o : others_in (w ∷ rest) ≡ suc (others_in rest) = rw (ne_eqb w 0 e) in
@@ -108,11 +113,11 @@ module _ (bytes : List ℕ) (v : ℕ) where
 
   -- the end: a clause is open, or all is right
   module _ {closed : Bool} {clauses literals : ℕ} (k : Checking v (words_of bytes) [] closed clauses literals) where
-    pub found-open : closed ≡ false → Wrong ≡ checked_of bytes v
+    pub found-open : closed ≡ false → None ≡ checked_of bytes v
     unfolding closed_from
     found-open e = found-wrong (λ r. false≢true (sym (k.last ∙ e) ∙ r.last))
 
-    pub found_right : length bytes % 4 ≡ 0 → v ≤ most_variables → closed ≡ true → Counted clauses literals ≡ checked_of bytes v
+    pub found_right : length bytes % 4 ≡ 0 → v ≤ most_variables → closed ≡ true → counted clauses literals ≡ checked_of bytes v
     unfolding closed_from all_within zeros_in others_in
     found_right h g e =
         let s = stand true (words_of bytes) (k.last ∙ e) in
@@ -126,13 +131,13 @@ module _ (bytes : List ℕ) (v : ℕ) where
           clauses = omega (arith, z, k.few_clauses);
           literals = omega (arith, o, k.few_literals);
         }) in
-        (λ i. Counted (z i) (o i)) ∙ rw r
+        (λ i. counted (z i) (o i)) ∙ rw r
 
 -- what a caller learns: refusal 9 ..
-pub refused_of_checked : (bytes : List ℕ) (v : ℕ) → checked_of bytes v ≡ Wrong → wrong_bytes bytes v ≡ true
+pub refused_of_checked : (bytes : List ℕ) (v : ℕ) → checked_of bytes v ≡ None → wrong_bytes bytes v ≡ true
 refused_of_checked bytes v e = go (wrong_bytes bytes v) refl e
   where
-    go : (b : Bool) → wrong_bytes bytes v ≡ b → cond b Wrong (Counted (length (clauses_of bytes)) (literals_in (clauses_of bytes))) ≡ Wrong
+    go : (b : Bool) → wrong_bytes bytes v ≡ b → cond b None (counted (length (clauses_of bytes)) (literals_in (clauses_of bytes))) ≡ None
         → wrong_bytes bytes v ≡ true
     go true f h = f
     go false f h = let z : ◌≡◌ {A = ℕ} 0 1 = cc in absurd (omega arith)
@@ -145,18 +150,22 @@ pub record Found (bytes : List ℕ) (v clauses literals : ℕ) : Type 0 where
   pub literals_are : literals_in (clauses_of bytes) ≡ literals
   pub words : length (words_of bytes) ≡ literals + clauses
 
-pub found_of_checked : (bytes : List ℕ) (v clauses literals : ℕ) → checked_of bytes v ≡ Counted clauses literals
+pub found_of_checked : (bytes : List ℕ) (v clauses literals : ℕ) → checked_of bytes v ≡ counted clauses literals
     → Found bytes v clauses literals
 found_of_checked bytes v clauses literals e = go (wrong_bytes bytes v) refl e
   where
+    told : (Counted → ℕ) → Option Counted → ℕ
+    told f None = 0
+    told f (Some x) = f x
+
     go : (b : Bool) → wrong_bytes bytes v ≡ b
-        → cond b Wrong (Counted (length (clauses_of bytes)) (literals_in (clauses_of bytes))) ≡ Counted clauses literals
+        → cond b None (counted (length (clauses_of bytes)) (literals_in (clauses_of bytes))) ≡ counted clauses literals
         → Found bytes v clauses literals
     go true f h = let z : ◌≡◌ {A = ℕ} 0 1 = cc in absurd (omega arith)
     go false f h =
         let r = right_of_not_wrong bytes v f in
-        let c : length (clauses_of bytes) ≡ clauses = cc in
-        let l : literals_in (clauses_of bytes) ≡ literals = cc in
+        let c : length (clauses_of bytes) ≡ clauses = ap (told (λ (x : Counted). x.clauses)) h in
+        let l : literals_in (clauses_of bytes) ≡ literals = ap (told (λ (x : Counted). x.literals)) h in
         record {
           right = r;
           not_wrong = f;

@@ -12,8 +12,7 @@ use borrow.Author.Tests.{lt-ltb, ltb-true, ne_eqb}
 use Rattle.laws.specs.Numbers.{little}
 use Rattle.text.specs.Texts.{decimal}
 use Rattle.text.specs.Inner.Numbers.{grown_of}
-use Rattle.text.specs.declared.number.Number.{Number}
-use Rattle.text.specs.declared.number.Number.TheVariants.{Wrong, Is}
+use Rattle.std.specs.Prelude.{Option, Some, None}
 use Rattle.text.proofs.Laws.Numbers.{More, here, digit, First, first, first_of_decimal, split_of_first, grown-more, grown-first, grown_of_lem}
 use Rattle.clausal.specs.Clauses.{Literal, Clause, literal_bytes, clause_bytes, clauses_bytes}
 use Rattle.clausal.specs.Totals.{literals_in}
@@ -116,13 +115,13 @@ module _ (l x v k c n m : ℕ) where
       → OnAll (st Between l x v k c n) m out u
   begin_on out h g (first {d = d} {t = t} lo few le w) =
       let s = st Between l x v k c n in
-      let e : grown_of false 0 (48 + d - 48) v ≡ Is d = ap (λ (z : ℕ). grown_of false 0 z v) (minus_48 d) ∙ grown-first d v le in
+      let e : grown_of false 0 (48 + d - 48) v ≡ Some d = ap (λ (z : ℕ). grown_of false 0 z v) (minus_48 d) ∙ grown-first d v le in
       record {
         act = Begin;
         entry = live.begin lo few;
         left = out;
         split = refl;
-        next = subst⁻¹ (λ (z : Number). Lang (begun_of s z) m out t) e (opened Plain d out t h g w);
+        next = subst⁻¹ (λ (z : Option ℕ). Lang (begun_of s z) m out t) e (opened Plain d out t h g w);
       }
 
   turn_on : (out t : List ℕ) → c < k → n < most_literals → 0 < v → First 1 v (Behind false v k c (n + 1) m out) t
@@ -193,13 +192,13 @@ module _ (l x v k c n m : ℕ) where
   sign_on : (out : List ℕ) {u : List ℕ} → First 1 v (Behind false v k c n m out) u → OnAll (st Sign l x v k c n) m out u
   sign_on out (first {d = d} {t = t} lo few le w) =
       let s = st Sign l x v k c n in
-      let e : grown_of false 0 (48 + d - 48) v ≡ Is d = ap (λ (z : ℕ). grown_of false 0 z v) (minus_48 d) ∙ grown-first d v le in
+      let e : grown_of false 0 (48 + d - 48) v ≡ Some d = ap (λ (z : ℕ). grown_of false 0 z v) (minus_48 d) ∙ grown-first d v le in
       record {
         act = Lead;
         entry = live.lead lo few;
         left = out;
         split = refl;
-        next = subst⁻¹ (λ (z : Number). Lang (taken_of s Negated z) m out t) e w;
+        next = subst⁻¹ (λ (z : Option ℕ). Lang (taken_of s Negated z) m out t) e w;
       }
 
 -- in a literal, with `-` or without
@@ -212,8 +211,8 @@ module _ (l v k c n m : ℕ) (out : List ℕ) where
       → let s = st (inside plain) l x v k c n in Lang (taken_of s (inside plain) (grown_of true x (48 + d - 48) v)) m out t
   grown_on plain x d t h g w =
       let s = st (inside plain) l x v k c n in
-      let e : grown_of true x (48 + d - 48) v ≡ Is (x * 10 + d) = ap (λ (z : ℕ). grown_of true x z v) (minus_48 d) ∙ grown-more x d v h g in
-      subst⁻¹ (λ (z : Number). Lang (taken_of s (inside plain) z) m out t) e w
+      let e : grown_of true x (48 + d - 48) v ≡ Some (x * 10 + d) = ap (λ (z : ℕ). grown_of true x z v) (minus_48 d) ∙ grown-more x d v h g in
+      subst⁻¹ (λ (z : Option ℕ). Lang (taken_of s (inside plain) z) m out t) e w
 
   end_on : (plain : Bool) (x : ℕ) (d : Clause) (cs : List Clause) {u : List ℕ} → Body false (d ∷ cs) u
       → out ≡ literal_bytes (record { plain = plain; variable = x }) ++ clauses_bytes (d ∷ cs)
@@ -300,7 +299,7 @@ module _ (l x v k c n m : ℕ) (out : List ℕ) where
       }
 
   -- a number of which the first digit d was taken in
-  first_back : (Next : ℕ → List ℕ → Type 0) (d y : ℕ) (t : List ℕ) → 0 < d → d < 10 → grown_of false 0 (48 + d - 48) v ≡ Is y
+  first_back : (Next : ℕ → List ℕ → Type 0) (d y : ℕ) (t : List ℕ) → 0 < d → d < 10 → grown_of false 0 (48 + d - 48) v ≡ Some y
       → More v Next y t
       → First 1 v Next ((48 + d) ∷ t)
   first_back Next d y t h g e w =
@@ -309,10 +308,10 @@ module _ (l x v k c n m : ℕ) (out : List ℕ) where
       first h g (omega (arith, r, q.bound)) (subst (λ (z : ℕ). More v Next z t) r w)
 
 -- what was made of a number
-by_number : {A : Type 0} (m : ℕ) (out t : List ℕ) (F : Number → State) (z : Number) → ((y : ℕ) → z ≡ Is y → Lang (F (Is y)) m out t → A)
-    → (Lang (F Wrong) m out t → A) → Lang (F z) m out t → A
-by_number m out t F Wrong is wrong h = wrong h
-by_number m out t F (Is y) is wrong h = is y refl h
+by_number : {A : Type 0} (m : ℕ) (out t : List ℕ) (F : Option ℕ → State) (z : Option ℕ) → ((y : ℕ) → z ≡ Some y → Lang (F (Some y)) m out t → A)
+    → (Lang (F None) m out t → A) → Lang (F z) m out t → A
+by_number m out t F None is wrong h = wrong h
+by_number m out t F (Some y) is wrong h = is y refl h
 
 -- one byte back, in each live entry
 module _ (l x v k c n m : ℕ) (out t : List ℕ) where
@@ -339,8 +338,8 @@ module _ (l x v k c n m : ℕ) (out t : List ℕ) where
       }
 
   -- a further digit
-  grow-back : (F : Number → State) (Next : ℕ → List ℕ → Type 0) (d : ℕ) → d < 10 → (Lang (F Wrong) m out t → ⊥)
-      → ((y : ℕ) → Lang (F (Is y)) m out t → More v Next y t) → Lang (F (grown_of true x (48 + d - 48) v)) m out t
+  grow-back : (F : Option ℕ → State) (Next : ℕ → List ℕ → Type 0) (d : ℕ) → d < 10 → (Lang (F None) m out t → ⊥)
+      → ((y : ℕ) → Lang (F (Some y)) m out t → More v Next y t) → Lang (F (grown_of true x (48 + d - 48) v)) m out t
       → More v Next x ((48 + d) ∷ t)
   grow-back F Next d g wrong is h =
       by_number m out t F (grown_of true x (48 + d - 48) v)

@@ -1,7 +1,7 @@
 -- The second reading of a right text follows the first: the pen is what the reader's state says, and what it writes is what the reader
 -- puts out. The zero of a clause is put out at once and written at the white space behind it, so it is pending for one byte.
 -- Assumes nothing.
-use mathlib.Core.Path.{◌≡◌, refl, sym, ap, ◌∙◌, subst, subst⁻¹}
+use mathlib.Core.Path.{◌≡◌, refl, sym, ap, ◌∙◌, subst}
 use mathlib.Core.Bool.{Bool, true, false, cond, false≢true}
 use mathlib.Core.List.{List, [], ◌++◌, append_assoc, append-nil}
 use mathlib.Core.Logic.{◌⊎◌, inl, inr}
@@ -17,8 +17,7 @@ use Rattle.laws.specs.Inner.Stores.{Stored}
 use Rattle.laws.proofs.Automata.{run-next, run_end, output-next, output-end}
 use Rattle.laws.proofs.Stored.{Storing, storing_start, storing_room, storing_length, storing_more, storing_end, stored-nothing, stored_as}
 use Rattle.text.specs.Inner.Numbers.{grown_of}
-use Rattle.text.specs.declared.number.Number.{Number}
-use Rattle.text.specs.declared.number.Number.TheVariants.{Wrong, Is}
+use Rattle.std.specs.Prelude.{Option, Some, None}
 use Rattle.header.specs.Heads.{space, tab}
 use Rattle.classes.specs.Inner.Classes.{class_of, is_white, is_digit}
 use Rattle.clausebytes.specs.Words.{most_literals}
@@ -30,7 +29,6 @@ use Rattle.body.specs.declared.phase.Phase.TheVariants.{Between, Closed, Sign, P
 use Rattle.body.specs.declared.state.State.{State}
 use Rattle.header.specs.Heads as head
 use Rattle.header.proofs.Laws.White.{white_class}
-use Rattle.dimacs.specs.Texts as grammar
 use Rattle.dimacs.specs.Inner.Walks.{token_bytes, puts_of, state_from, bytes_from}
 use Rattle.dimacs.specs.Inner.Copies.{no_pen, pen_bytes, digit_of, minus_of, pen_of, ends_word, written, Fits}
 use Rattle.dimacs.specs.declared.copier.Pen.{Pen}
@@ -194,13 +192,13 @@ module _ (s : State) where
       same_either s.variables (ltb s.clauses s.declared) _ (dead_of s)
       (same_either s.variables (ltb s.literals most_literals) _ (dead_of s) refl refl) refl
 
-  same_begun : (z : Number) → (begun_of s z).variables ≡ s.variables
-  same_begun Wrong = refl
-  same_begun (Is x) = same-open Plain x
+  same_begun : (z : Option ℕ) → (begun_of s z).variables ≡ s.variables
+  same_begun None = refl
+  same_begun (Some x) = same-open Plain x
 
-  same_taken : (p : Phase) (z : Number) → (taken_of s p z).variables ≡ s.variables
-  same_taken p Wrong = refl
-  same_taken p (Is x) = refl
+  same_taken : (p : Phase) (z : Option ℕ) → (taken_of s p z).variables ≡ s.variables
+  same_taken p None = refl
+  same_taken p (Some x) = refl
 
   same_moved : (a : Act) (d : ℕ) → (move_of a s d).variables ≡ s.variables
   same_moved Die d = refl

@@ -13,8 +13,7 @@ use borrow.Author.Tests.{ltb-true, eqb-true, eqb-false, eq-eqb}
 use Rattle.laws.specs.Automata.{run, output, Begins}
 use Rattle.text.specs.Texts.{decimal}
 use Rattle.text.specs.Inner.Numbers.{grown_of}
-use Rattle.text.specs.declared.number.Number.{Number}
-use Rattle.text.specs.declared.number.Number.TheVariants.{Wrong, Is}
+use Rattle.std.specs.Prelude.{Option, Some, None}
 use Rattle.text.proofs.Laws.Decimals.{decimal-some}
 use Rattle.text.proofs.Laws.Numbers.{More, here, digit, First, first, grown_of_lem}
 use Rattle.header.specs.Heads.{space}
@@ -115,9 +114,9 @@ kept_miss : (b : Bool) (r s : State) → (b ≡ false → Kept r) → Kept (cond
 kept_miss true r s h = tt
 kept_miss false r s h = h refl
 
-kept-number : (F : Number → State) (z : Number) → ((y : ℕ) → z ≡ Is y → Kept (F (Is y))) → Kept (F Wrong) → Kept (F z)
-kept-number F Wrong is wrong = wrong
-kept-number F (Is y) is wrong = is y refl
+kept-number : (F : Option ℕ → State) (z : Option ℕ) → ((y : ℕ) → z ≡ Some y → Kept (F (Some y))) → Kept (F None) → Kept (F z)
+kept-number F None is wrong = wrong
+kept-number F (Some y) is wrong = is y refl
 
 module _ (l x v k c n : ℕ) where
   kept-open : (p : Phase) (y : ℕ) → (c < k → n < most_literals → KeptIn p y v k c (n + 1)) → Kept (open_of (st Between l x v k c n) p y)
@@ -161,14 +160,14 @@ abbrev blanks_of : ℕ → List Clause
 blanks_of zero = []
 blanks_of (suc j) = [] ∷ blanks_of j
 
-abbrev Some : (List ℕ → Type 0) → Type 0
-Some F = (t : List ℕ) × F t
+abbrev SomeText : (List ℕ → Type 0) → Type 0
+SomeText F = (t : List ℕ) × F t
 
-zeros : (j : ℕ) → Some (Body true (blanks_of j))
+zeros : (j : ℕ) → SomeText (Body true (blanks_of j))
 zeros zero = ([], grammar.end)
 zeros (suc j) = let e = zeros j in (48 ∷ 32 ∷ e.0, grammar.zero (grammar.white (head.blank space) e.1))
 
-spaced : (j : ℕ) → Some (Body false (blanks_of j))
+spaced : (j : ℕ) → SomeText (Body false (blanks_of j))
 spaced j = let e = zeros j in (32 ∷ e.0, grammar.white (head.blank space) e.1)
 
 module _ (v k c n : ℕ) (few : n ≤ most_literals) where
@@ -193,7 +192,7 @@ module _ (v k c n : ℕ) (few : n ≤ most_literals) where
     body = b;
   }
 
-  part-some : (p : Bool) → c ≤ k → Some (Body p (blanks_of (k - c))) → Some (λ t. (m : ℕ) × (out : List ℕ) × Part p v k c n m out t)
+  part-some : (p : Bool) → c ≤ k → SomeText (Body p (blanks_of (k - c))) → SomeText (λ t. (m : ℕ) × (out : List ℕ) × Part p v k c n m out t)
   part-some p h b = (
     b.0,
     (
@@ -207,7 +206,7 @@ module _ (v k c n : ℕ) (few : n ≤ most_literals) where
     ),
   )
 
-  behind-some : (plain : Bool) (y : ℕ) → c < k → Some (λ t. (out : List ℕ) × Behind plain v k c n n out y t)
+  behind-some : (plain : Bool) (y : ℕ) → c < k → SomeText (λ t. (out : List ℕ) × Behind plain v k c n n out y t)
   behind-some plain y h =
       let j : ℕ = k - c - 1 in
       let b = spaced (suc j) in
@@ -228,7 +227,7 @@ module _ (v k c n : ℕ) (few : n ≤ most_literals) where
 abbrev pub Follow : State → List ℕ → Type 0
 Follow s t = (m : ℕ) × (out : List ℕ) × Lang s m out t
 
-some_in : (p : Phase) (l x v k c n : ℕ) → KeptIn p x v k c n → alive p ≡ true → Some (Follow (st p l x v k c n))
+some_in : (p : Phase) (l x v k c n : ℕ) → KeptIn p x v k c n → alive p ≡ true → SomeText (Follow (st p l x v k c n))
 some_in Between l x v k c n q e = part-some v k c n q.1 true q.0 (zeros (k - c))
 some_in Closed l x v k c n q e = part-some v k c n q.1 false q.0 (spaced (k - c))
 some_in Sign l x v k c n q e =

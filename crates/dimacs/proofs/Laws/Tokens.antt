@@ -9,15 +9,14 @@ use native.Mathlib.Omega.{arith}
 use lib.Dec.{eqb, ltb}
 use lib.ListN.{length}
 use Rattle.text.specs.Inner.Numbers.{grown_of}
-use Rattle.text.specs.declared.number.Number.{Number}
-use Rattle.text.specs.declared.number.Number.TheVariants.{Wrong, Is}
+use Rattle.std.specs.Prelude.{Option, Some, None}
 use Rattle.classes.specs.Inner.Classes.{class_of, code, is_white, is_digit}
 use Rattle.clausebytes.specs.Words.{most_literals}
 use Rattle.body.specs.Inner.Table.{Sort, Nought, Digit, Minus, White, Act, sort_of, act_of, is_dead, is_number}
 use Rattle.body.specs.Inner.Table as act
 use Rattle.body.specs.Inner.States.{to_of, dead_of, taken_of, close_of, open_of, begun_of, turn_of, move_of}
 use Rattle.body.specs.declared.phase.Phase.{Phase}
-use Rattle.body.specs.declared.phase.Phase.TheVariants.{Between, Closed, Sign, Plain, Negated, Dead}
+use Rattle.body.specs.declared.phase.Phase.TheVariants.{Between, Closed, Sign, Plain, Negated}
 use Rattle.body.specs.declared.state.State.{State}
 use Rattle.dimacs.specs.Inner.Walks.{next_in, Leads, Over, dead, end, Zeroed, Begun, Ended, Spelt}
 use Rattle.dimacs.proofs.Laws.Bytes.{white_sort, nought_sort, digit_sort, minus_sort, between-dies, closed-dies, sign-dies}
@@ -25,10 +24,10 @@ use Rattle.dimacs.proofs.Laws.Bytes.{number_grows, number-dies, number-ends}
 use Rattle.dimacs.proofs.Laws.Leads.{leads_by, leads_on, further_by}
 
 -- the value after a digit, or a wrong number
-by_grown : (begun : Bool) (x d most : ℕ) (Q : Number → Type 0) → Q Wrong → Q (Is (x * 10 + d)) → Q (grown_of begun x d most)
+by_grown : (begun : Bool) (x d most : ℕ) (Q : Option ℕ → Type 0) → Q None → Q (Some (x * 10 + d)) → Q (grown_of begun x d most)
 by_grown begun x d most Q wrong is = go (begun && eqb x 0) (ltb most (x * 10 + d))
   where
-    go : (a b : Bool) → Q (cond a Wrong (cond b Wrong (Is (x * 10 + d))))
+    go : (a b : Bool) → Q (cond a None (cond b None (Some (x * 10 + d))))
     go true b = wrong
     go false true = wrong
     go false false = is

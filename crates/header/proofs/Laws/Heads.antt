@@ -8,9 +8,8 @@ use Prim.Native.Nat.{ℕ, ◌+◌, ◌*◌, ◌-◌}
 use native.Mathlib.Omega.{arith}
 use lib.Dec.{eqb}
 use borrow.Author.Tests.{eqb-true, eqb-false, eq-eqb, ne_eqb}
+use Rattle.std.specs.Prelude.{Option, Some, None}
 use Rattle.text.specs.Inner.Numbers.{is_digit, grown_of}
-use Rattle.text.specs.declared.number.Number as number
-use Rattle.text.specs.declared.number.Number.TheVariants.{Wrong, Is}
 use Rattle.text.proofs.Laws.Numbers.{More, here, digit, First, Took, first_of_decimal, split_of_first, first_on, first_back}
 use Rattle.text.proofs.Laws.Numbers.{more-back, digit_value, digit_of_lem, grown-more}
 use Rattle.header.specs.Heads as grammar
@@ -92,7 +91,7 @@ module _ (f : Form) (Next : ℕ → ℕ → List ℕ → Type 0) where
   -- a digit that is taken in
   taking : (s : Head) (begun : Bool) (b x : ℕ) (t : List ℕ) → Took (most_of f s.last) (Behind s.last s.before) begun x b t
       → Lang (taken_of s (grown_of begun x (b - 48) (most_of f s.last))) t
-  taking s begun b x t k = subst⁻¹ (λ (n : number.Number). Lang (taken_of s n) t) k.grown k.more
+  taking s begun b x t k = subst⁻¹ (λ (n : Option ℕ). Lang (taken_of s n) t) k.grown k.more
 
   abbrev pub st : ℕ → ℕ → ℕ → Bool → Phase → Head
   st place x m l p = record { phase = p; place = place; value = x; before = m; last = l }
@@ -161,10 +160,10 @@ module _ (f : Form) (Next : ℕ → ℕ → List ℕ → Type 0) where
       → Took (most_of f s.last) (Behind s.last s.before) begun x b t
   took s begun b x t d h = go (grown_of begun x (b - 48) (most_of f s.last)) refl h
     where
-      go : (n : number.Number) → grown_of begun x (b - 48) (most_of f s.last) ≡ n → Lang (taken_of s n) t
+      go : (n : Option ℕ) → grown_of begun x (b - 48) (most_of f s.last) ≡ n → Lang (taken_of s n) t
           → Took (most_of f s.last) (Behind s.last s.before) begun x b t
-      go Wrong e g = absurd g
-      go (Is y) e g = record { value = y; digit = d; grown = e; more = g }
+      go None e g = absurd g
+      go (Some y) e g = record { value = y; digit = d; grown = e; more = g }
 
   -- a byte that is known
   is : (F : List ℕ → Type 0) (b c : ℕ) (t : List ℕ) → eqb b c ≡ true → F (c ∷ t) → F (b ∷ t)

@@ -9,11 +9,10 @@ use lib.Dec.{eqb}
 use lib.ListN.{length}
 use Rattle.laws.specs.Automata.{run, Begins}
 use Rattle.text.specs.Texts.{decimal}
+use Rattle.std.specs.Prelude.{Option, Some, None}
 use Rattle.text.specs.Inner.Numbers.{is_digit, grown_of}
-use Rattle.text.specs.declared.number.Number as number
-use Rattle.text.specs.declared.number.Number.TheVariants.{Wrong, Is}
 use Rattle.text.proofs.Laws.Numbers.{here, grown_of_lem}
-use Rattle.header.specs.Heads.{Gap, Blanks, Byte, LastNumber, Numbers}
+use Rattle.header.specs.Heads.{Gap, Blanks, Byte, LastNumber, Numbers, most_before}
 use Rattle.header.specs.Heads as grammar
 use Rattle.header.specs.Inner.Heads.{is_blank, is_done, is_over, start_of, to_of, dead_of, go_of, taken_of, most_of, space_by, space_of, step_at}
 use Rattle.header.specs.Inner.Heads.{step_in, step_of, head_of}
@@ -40,9 +39,9 @@ module _ (s : Head) where
   gone : (c : Bool) (p : Phase) → alive p ≡ true → Moved s (go_of s c p)
   gone c p e = either c (to_of s p) (dead_of s) (on e refl) off
 
-  taken : (n : number.Number) → Moved s (taken_of s n)
-  taken Wrong = off
-  taken (Is x) = on refl refl
+  taken : (n : Option ℕ) → Moved s (taken_of s n)
+  taken None = off
+  taken (Some x) = on refl refl
 
   spaced : (l : Bool) → Moved s (space_by l s)
   spaced true = on refl refl
@@ -143,7 +142,7 @@ LastIn Dead l = Unit
 -- the numbers are within their limits
 pub record Kept (f : Form) (s : Head) : Type 0 where
   pub small : s.value ≤ most_of f s.last
-  pub earlier : s.before ≤ f.before
+  pub earlier : s.before ≤ most_before f
   pub closing : LastIn s.phase s.last
 
 module _ (f : Form) where
@@ -168,9 +167,9 @@ module _ (f : Form) where
     take : (begun : Bool) (x d : ℕ) → Kept f (taken_of s (grown_of begun x d (most_of f s.last)))
     take begun x d = by (grown_of begun x d (most_of f s.last)) refl
       where
-        by : (n : number.Number) → grown_of begun x d (most_of f s.last) ≡ n → Kept f (taken_of s n)
-        by Wrong e = dead
-        by (Is y) e = record { small = (grown_of_lem begun x d (most_of f s.last) y e).bound; earlier = k.earlier; closing = tt }
+        by : (n : Option ℕ) → grown_of begun x d (most_of f s.last) ≡ n → Kept f (taken_of s n)
+        by None e = dead
+        by (Some y) e = record { small = (grown_of_lem begun x d (most_of f s.last) y e).bound; earlier = k.earlier; closing = tt }
 
     spaced_kept : (l : Bool) → s.last ≡ l → Kept f (space_by l s)
     spaced_kept true e = to (At spot.After) e
@@ -226,48 +225,48 @@ head_reader f Next letter = record {
 
 -- a way to finish each live state, where there is one for all numbers
 module _ (f : Form) (Next : ℕ → ℕ → List ℕ → Type 0)
-    (every : (m n : ℕ) → m ≤ f.before → n ≤ f.last → Begins (Next m n) []) where
+    (every : (m n : ℕ) → m ≤ most_before f → n ≤ f.last → Begins (Next m n) []) where
   -- some text of a language
-  abbrev Some : (List ℕ → Type 0) → Type 0
-  Some F = (t : List ℕ) × F t
+  abbrev SomeText : (List ℕ → Type 0) → Type 0
+  SomeText F = (t : List ℕ) × F t
 
-  line-end : (m n : ℕ) → m ≤ f.before → n ≤ f.last → Some (Gap (Byte 10 (Next m n)))
+  line-end : (m n : ℕ) → m ≤ most_before f → n ≤ f.last → SomeText (Gap (Byte 10 (Next m n)))
   line-end m n g h = let e = every m n g h in (10 ∷ e.0, grammar.none (grammar.just e.1))
 
-  last-number : (m : ℕ) → m ≤ f.before → Some (LastNumber f (Next m))
+  last-number : (m : ℕ) → m ≤ most_before f → SomeText (LastNumber f (Next m))
   last-number m g = let e = line-end m 0 g (omega arith) in (decimal 0 ++ e.0, grammar.number {n = 0} (omega arith) e.1)
 
-  spaced_last : (m : ℕ) → m ≤ f.before → Some (Blanks (LastNumber f (Next m)))
+  spaced_last : (m : ℕ) → m ≤ most_before f → SomeText (Blanks (LastNumber f (Next m)))
   spaced_last m g = let e = last-number m g in (32 ∷ e.0, grammar.blanks grammar.space (grammar.none e.1))
 
-  numbers : (l : Bool) (m : ℕ) → m ≤ f.before → Some (Numbers f Next l m)
+  numbers : (l : Bool) (m : ℕ) → m ≤ most_before f → SomeText (Numbers f Next l m)
   numbers true m g = last-number m g
   numbers false m g = let e = spaced_last 0 (omega arith) in (decimal 0 ++ e.0, grammar.number {n = 0} (omega arith) e.1)
 
-  behind : (l : Bool) (m x : ℕ) → m ≤ f.before → x ≤ most_of f l → Some (Behind f Next l m x)
+  behind : (l : Bool) (m x : ℕ) → m ≤ most_before f → x ≤ most_of f l → SomeText (Behind f Next l m x)
   behind true m x g h = line-end m x g h
   behind false m x g h = spaced_last x h
 
-  module _ (x m : ℕ) (l : Bool) (g : m ≤ f.before) (h : x ≤ most_of f l) where
-    spaced_numbers : Some (Blanks (Numbers f Next l m))
+  module _ (x m : ℕ) (l : Bool) (g : m ≤ most_before f) (h : x ≤ most_of f l) where
+    spaced_numbers : SomeText (Blanks (Numbers f Next l m))
     spaced_numbers = let e = numbers l m g in (32 ∷ e.0, grammar.blanks grammar.space (grammar.none e.1))
 
-    third : Some (LangAt f Next spot.Third x m l)
+    third : SomeText (LangAt f Next spot.Third x m l)
     third = let e = spaced_numbers in (f.third ∷ e.0, grammar.just e.1)
 
-    second : Some (LangAt f Next spot.Second x m l)
+    second : SomeText (LangAt f Next spot.Second x m l)
     second = let e = third in (f.second ∷ e.0, grammar.just e.1)
 
-    before-word : Some (LangAt f Next spot.BeforeWord x m l)
+    before-word : SomeText (LangAt f Next spot.BeforeWord x m l)
     before-word = let e = second in (f.first ∷ e.0, grammar.none (grammar.just e.1))
 
-    problem : Some (LangAt f Next spot.Problem x m l)
+    problem : SomeText (LangAt f Next spot.Problem x m l)
     problem = let e = before-word in (32 ∷ e.0, grammar.blanks grammar.space e.1)
 
-    line : Some (LangAt f Next spot.Line x m l)
+    line : SomeText (LangAt f Next spot.Line x m l)
     line = let e = problem in (112 ∷ e.0, grammar.header e.1)
 
-    some_at : (p : Spot) → LastAt p l → Some (LangAt f Next p x m l)
+    some_at : (p : Spot) → LastAt p l → SomeText (LangAt f Next p x m l)
     some_at spot.Line c = line
     some_at spot.Comment c = let e = line in (10 ∷ e.0, (e.0, grammar.ended, e.1))
     some_at spot.Problem c = problem
@@ -279,7 +278,7 @@ module _ (f : Form) (Next : ℕ → ℕ → List ℕ → Type 0)
     some_at spot.Number c = let e = behind l m x g h in (e.0, here e.1)
     some_at spot.After c = line-end m x g (subst (λ (b : Bool). x ≤ most_of f b) c h)
 
-    some_in : (p : Phase) → LastIn p l → alive p ≡ true → Some (LangIn f Next p x m l)
+    some_in : (p : Phase) → LastIn p l → alive p ≡ true → SomeText (LangIn f Next p x m l)
     some_in (At p) c e = some_at p c
     some_in Done c e = every m x g (subst (λ (b : Bool). x ≤ most_of f b) c h)
     some_in Dead c e = absurd (false≢true e)

@@ -6,10 +6,9 @@ use mathlib.Core.List.{List}
 use Prim.Native.Nat.{ℕ, ◌+◌, ◌-◌, ◌<◌}
 use native.Mathlib.Omega.{arith}
 use lib.ListN.{length, drop}
-use Rattle.laws.proofs.Automata.{run_end}
-use Rattle.header.specs.Inner.Heads.{is_over, is_comment, step_of}
+use Rattle.header.specs.Inner.Heads.{is_over, is_comment}
 use Rattle.header.proofs.Laws.Steps.{run-over}
-use Rattle.header.proofs.Laws.Reading.{Nearer, reading_start, left, left-more, nearer_step}
+use Rattle.header.proofs.Laws.Reading.{Nearer, left, left-more, nearer_step}
 use Rattle.header.proofs.Laws.Reading.{nearer_comment, left-comment}
 use Rattle.header.proofs.read.Goals.{After-comment-head, At-loop-head, At-loop-head-2, Else-is_over, Then-is_comment}
 use Rattle.header.proofs.read.Goals as goal
@@ -23,9 +22,6 @@ more c = sym c.is_over.ensures ∙ c.if-is_over.false
 in-comment : (c : Then-is_comment) → is_comment c.loop-head-2.head.phase ≡ true
 in-comment c = sym c.is_comment.ensures ∙ c.if-is_comment.true
 
-pub loop-head-init : goal.loop-head-init
-loop-head-init c = let x = c.args in reading_start x.form x.text.now c.start-head.result c.start-head.ensures
-
 -- the head is read, or dead
 pub returns-then-is_over : goal.returns-then-is_over
 returns-then-is_over c =
@@ -33,11 +29,6 @@ returns-then-is_over c =
     let x = c.args in
     sym (run-over x.form l.head (drop l.head.place x.text.now) (sym c.is_over.ensures ∙ c.if-is_over.true))
     ∙ l.invariant.leads
-
-pub step-head-requires : goal.step-head-requires
-step-head-requires c =
-    let pre = c.requires in
-    record { table = pre.table; letters = pre.letters; room = omega arith }
 
 pub loop-head-2-init : goal.loop-head-2-init
 loop-head-2-init c =
@@ -50,11 +41,6 @@ less-left : (c : At-loop-head-2)
     → left (text_of (goal.at.At-loop-head-2 c).At-loop-head) c.loop-head-2.head < left (text_of (goal.at.At-loop-head-2 c).At-loop-head) c.loop-head.head
 less-left c =
     omega (arith, c.loop-head-2.invariant.less, left-more (text_of (goal.at.At-loop-head-2 c).At-loop-head) c.loop-head.head (more (goal.at.At-loop-head-2 c).Else-is_over))
-
-pub comment-head-requires : goal.comment-head-requires
-comment-head-requires c =
-    let pre = c.requires in
-    record { table = pre.table; room = omega arith }
 
 -- one byte of a comment on
 on : (c : After-comment-head) → let x = c.args in Nearer x.form x.text.now c.loop-head-2.head.place c.comment-head.result
@@ -73,32 +59,3 @@ loop-head-2-smaller c = omega (arith, (on c).less, was (goal.at.loop-head-2-smal
 pub loop-head-2-preserved : goal.loop-head-2-preserved
 loop-head-2-preserved c =
     record { reading = (on c).reading; less = omega (arith, (on c).less, was (goal.at.loop-head-2-preserved c).Then-is_comment, c.loop-head-2.invariant.less) }
-
-pub returns : goal.returns
-returns c =
-    let x = c.args in
-    sym (run_end (step_of x.form) c.loop-head.head x.text.now c.loop-head.head.place c.loop-head-test.false) ∙ c.loop-head.invariant.leads
-
-pub bounds-text-place : goal.bounds-text-place
-bounds-text-place c =
-    c.loop-head-test.true
-
-pub loop-head-smaller-else-is_comment : goal.loop-head-smaller-else-is_comment
-loop-head-smaller-else-is_comment c =
-    less-left (goal.at.loop-head-smaller-else-is_comment c).At-loop-head-2
-
-pub loop-head-preserved-else-is_comment : goal.loop-head-preserved-else-is_comment
-loop-head-preserved-else-is_comment c =
-    c.loop-head-2.invariant.reading
-
-pub loop-head-smaller : goal.loop-head-smaller
-loop-head-smaller c =
-    less-left (goal.at.loop-head-smaller c).At-loop-head-2
-
-pub loop-head-preserved : goal.loop-head-preserved
-loop-head-preserved c =
-    c.loop-head-2.invariant.reading
-
-pub bounds-text-at : goal.bounds-text-at
-bounds-text-at c =
-    c.loop-head-2-test.true

@@ -1,6 +1,5 @@
 -- `header::read` meets its contract: what is still to be read leads from the present state to where the whole text leads.
 -- Both loops go on by one law. Assumes nothing.
-use Prim.Native.Nat.{◌-◌}
 use Rattle.header.proofs.Laws.Reading.{Reading, Nearer, left}
 use Rattle.header.proofs.read.Given as goal
 

@@ -1,12 +1,11 @@
 -- The head of a text as it is read byte by byte: the state, and one byte on.
 -- `Heads` has its grammar, and `proofs/Headed` says that both are the same.
 -- Assumes nothing: these are definitions.
-use Rattle.std.specs.Prelude.{Bool, true, false, cond, not, ◌||◌, List, ◌≡◌, ℕ, ◌+◌, ◌-◌, ◌^◌, ◌<◌, eqb}
+use Rattle.std.specs.Prelude.{Bool, true, false, cond, is_none, Option, Some, None, ◌||◌, List, ◌≡◌, ℕ, ◌+◌, ◌-◌, ◌^◌, ◌<◌, eqb}
 use Rattle.laws.specs.Automata.{run}
 use Rattle.text.specs.Inner.Numbers.{is_digit, grown_of}
-use Rattle.text.specs.declared.number.Number as number
-use Rattle.text.specs.declared.number.Number.TheVariants.{Wrong, Is}
 use Rattle.classes.specs.Inner.Classes.{class_of, is_letter, table}
+use Rattle.header.specs.Heads.{most_before}
 use Rattle.header.specs.declared.Form.{Form}
 use Rattle.header.specs.declared.Head.{Head}
 use Rattle.header.specs.declared.Phase.{Phase}
@@ -51,7 +50,7 @@ is_comment Dead = false
 
 -- before the first byte
 abbrev pub start_of : Form → Head
-start_of f = record { phase = At Line; place = 0; value = 0; before = 0; last = not f.pair }
+start_of f = record { phase = At Line; place = 0; value = 0; before = 0; last = is_none f.before }
 
 -- one byte on, to a phase; dead at its place; and either, by a test
 abbrev pub to_of : Head → Phase → Head
@@ -64,13 +63,13 @@ abbrev pub go_of : Head → Bool → Phase → Head
 go_of s right p = cond right (to_of s p) (dead_of s)
 
 -- a digit was taken in, or could not be
-abbrev pub taken_of : Head → number.Number → Head
-taken_of s Wrong = dead_of s
-taken_of s (Is x) = record { phase = At Number; place = s.place + 1; value = x; before = s.before; last = s.last }
+abbrev pub taken_of : Head → Option ℕ → Head
+taken_of s None = dead_of s
+taken_of s (Some x) = record { phase = At Number; place = s.place + 1; value = x; before = s.before; last = s.last }
 
 -- the limit of the last number, or of the one before it
 abbrev pub most_of : Form → Bool → ℕ
-most_of f last = cond last f.last f.before
+most_of f last = cond last f.last (most_before f)
 
 -- one byte on, in each phase
 abbrev pub line_of : Head → ℕ → Head

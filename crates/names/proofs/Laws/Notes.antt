@@ -6,15 +6,15 @@ use mathlib.Core.List.{List}
 use Prim.Native.Nat.{ℕ, ◌+◌, ◌-◌, ◌*◌, ◌/◌, ◌%◌, ◌≤◌, ◌<◌}
 use native.Mathlib.Omega.{arith}
 use lib.Dec.{leb}
-use lib.ListN.{length, get_or, set, replicate, length-set, get_or-eq_default}
-use lib.Seq.{get_or-set_same, get_or-set_other}
+use lib.ListN.{get_or, set}
 use borrow.Author.Tests.{leb-true, leb-false, le-leb, lt-leb}
 use Rattle.laws.specs.Lists.{up_to}
 use Rattle.laws.specs.Inner.Stores.{pad_to}
 use Rattle.laws.proofs.Arrays.{get_d_pad, length_pad}
 use Rattle.laws.proofs.Upward.{length-up_to, get_d_up_to, pad_up_to}
 use Rattle.names.specs.Names.{name_in}
-use Rattle.names.specs.Inner.Notes.{lengths, place_of, last_number, last_place, notes_of, found_in, options_found, helpers_found}
+use Rattle.names.specs.Inner.Notes.{lengths, place_of, no_notes, notes_of, found_in, options_found, helpers_found}
+use Rattle.names.specs.declared.list.Notes.{Notes}
 use Rattle.names.specs.Inner.Notes.{Notable, Noted, Within, Findable, Looked}
 use Rattle.names.proofs.Laws.Places.{Reached, reached-start, reached-place}
 
@@ -22,52 +22,33 @@ use Rattle.names.proofs.Laws.Places.{Reached, reached-start, reached-place}
 abbrev block_of : List ℕ → List ℕ → ℕ → ℕ
 block_of list before j = place_of list (32 * j)
 
--- an array behind its notes
-get_d_notes : (list : List ℕ) (n j : ℕ) → n / 32 < j → get_or (notes_of list n) j 0 ≡ 0
-get_d_notes list n j h =
-    get_d_pad 0 1_024 (up_to (block_of list) (n / 32 + 1)) j
-    ∙ get_or-eq_default (up_to (block_of list) (n / 32 + 1)) 0 (omega (arith, length-up_to (block_of list) (n / 32 + 1)))
+-- the first k blocks are noted
+abbrev noted_up_to : List ℕ → ℕ → Notes
+noted_up_to list k = record { begins = pad_to 1_022 0 (up_to (block_of list) k); last = 0; at = 0 }
 
 -- the first notes
-pub noted-first : {list : List ℕ} {n : ℕ} {notes : List ℕ} → Notable list n notes → Noted list n (notes_of list n)
+pub noted-first : {list : List ℕ} {n : ℕ} {notes : Notes} → Notable list n notes → Noted list n (notes_of list n)
 unfolding lengths
 noted-first {list} {n} h =
     let k = n / 32 + 1 in
     let f = block_of list in
     let few : n / 32 ≤ 1_000 = omega (arith, h.few) in
-    let number = get_d_notes list n last_number (omega arith) in
-    let place = get_d_notes list n last_place (omega arith) in
     record {
       right = h.right;
       few = h.few;
-      size = length_pad 0 1_024 (up_to f k) (omega (arith, length-up_to f k));
-      blocks = λ j l. get_d_pad 0 1_024 (up_to f k) j ∙ get_d_up_to f 0 j k (omega arith);
-      number = omega (arith, number);
-      place = place ∙ ap (place_of list) (sym number);
+      size = length_pad 0 1_022 (up_to f k) (omega (arith, length-up_to f k));
+      blocks = λ j l. get_d_pad 0 1_022 (up_to f k) j ∙ get_d_up_to f 0 j k (omega arith);
+      number = omega arith;
+      place = refl;
     }
 
 -- a name was found
-pub noted-found : {list : List ℕ} {n : ℕ} {notes : List ℕ} → Noted list n notes → (j : ℕ) → j < n
+pub noted-found : {list : List ℕ} {n : ℕ} {notes : Notes} → Noted list n notes → (j : ℕ) → j < n
     → Noted list n (found_in list notes j)
-noted-found {list} {n} {notes} h j l =
-    let p = place_of list j in
-    let once = set notes last_number j in
-    let size : length once ≡ 1_024 = length-set notes last_number j ∙ h.size in
-    let number : get_or (found_in list notes j) last_number 0 ≡ j =
-    get_or-set_other once last_place last_number p 0 (λ e. omega arith)
-    ∙ get_or-set_same notes last_number j 0 (omega (arith, h.size)) in
-    record {
-      right = h.right;
-      few = h.few;
-      size = length-set once last_place p ∙ size;
-      blocks = λ i k. get_or-set_other once last_place i p 0 (λ e. omega (arith, h.few))
-          ∙ get_or-set_other notes last_number i j 0 (λ e. omega (arith, h.few)) ∙ h.blocks i k;
-      number = omega (arith, number);
-      place = get_or-set_same once last_place p 0 (omega arith) ∙ ap (place_of list) (sym number);
-    }
+noted-found h j l = record { right = h.right; few = h.few; size = h.size; blocks = h.blocks; number = omega arith; place = refl }
 
 -- one of both lists was looked into, and the notes of the other are as they were
-module _ {option_list helper_list option_notes helper_notes : List ℕ} {v n : ℕ}
+module _ {option_list helper_list : List ℕ} {option_notes helper_notes : Notes} {v n : ℕ}
     (f : Findable option_list helper_list option_notes helper_notes v n) where
   pub noted-options : Noted option_list v (options_found option_list option_notes v n)
   noted-options = go (leb n v) refl
@@ -92,7 +73,7 @@ module _ {option_list helper_list option_notes helper_notes : List ℕ} {v n : �
   within-helpers h = record { count = f.count; noted = f.helpers; below = omega (arith, f.most) }
 
 -- what was looked up, from the list of the options ..
-module _ (option_list helper_list option_notes helper_notes : List ℕ) (v n : ℕ) {found after : List ℕ} where
+module _ (option_list helper_list : List ℕ) (option_notes helper_notes : Notes) (v n : ℕ) {found : List ℕ} {after : Notes} where
   pub looked_option : n ≤ v → (found ≡ name_in option_list (n - 1)) × (after ≡ found_in option_list option_notes (n - 1))
       → Looked option_list helper_list option_notes helper_notes v n found after helper_notes
   looked_option h e =
@@ -107,49 +88,49 @@ module _ (option_list helper_list option_notes helper_notes : List ℕ) (v n : �
       record { name = rw b e.0; options = rw b; helpers = rw b e.1 }
 
 -- a name that is noted: a reader that looks for name j may begin there
-module _ {list notes : List ℕ} {j : ℕ} (w : Within list notes j) {i at : ℕ} where
+module _ {list : List ℕ} {notes : Notes} {j : ℕ} (w : Within list notes j) {i at : ℕ} where
   reached-noted : {k p : ℕ} → k ≤ j → p ≡ place_of list k → i ≡ k → at ≡ p → Reached list i at
   reached-noted {k} h e f g =
       let r = reached-place w.count w.noted.right k (omega (arith, w.below)) in
       subst (λ (m : ℕ). Reached list m at) (sym f) (subst (λ (m : ℕ). Reached list k m) (sym (g ∙ e)) r)
 
   -- the last 32nd one
-  pub reached_block : i ≡ j - j % 32 → at ≡ get_or notes (j / 32) 0 → Reached list i at
+  pub reached_block : i ≡ j - j % 32 → at ≡ get_or notes.begins (j / 32) 0 → Reached list i at
   reached_block e f =
       let h : 32 * (j / 32) ≤ j = omega arith in
       let g : i ≡ 32 * (j / 32) = omega arith in
       reached-noted h (w.noted.blocks (j / 32) (omega (arith, w.below))) g f
 
   -- the last one that was found
-  pub reached-last : get_or notes last_number 0 ≤ j → i ≡ get_or notes last_number 0 → at ≡ get_or notes last_place 0 → Reached list i at
+  pub reached-last : notes.last ≤ j → i ≡ notes.last → at ≡ notes.at → Reached list i at
   reached-last h e f = reached-noted h w.noted.place e f
 
 -- .. or at name j itself, once it is known where it begins
-pub reached-found : {list notes : List ℕ} {j at : ℕ} → Within list notes j → at ≡ place_of list j → Reached list j at
+pub reached-found : {list : List ℕ} {notes : Notes} {j at : ℕ} → Within list notes j → at ≡ place_of list j → Reached list j at
 reached-found w e = reached-noted w (omega arith) refl refl e
 
 -- the reader has come to name j, and notes it
-pub found-end : {list : List ℕ} (notes : List ℕ) {j i at : ℕ} → Reached list i at → i ≤ j → j ≤ i
-    → (at ≡ place_of list j) × (set (set notes last_number j) last_place at ≡ found_in list notes j)
+pub found-end : {list : List ℕ} (notes : Notes) {j i at : ℕ} → Reached list i at → i ≤ j → j ≤ i
+    → (at ≡ place_of list j) × (record { begins = notes.begins; last = j; at = at } ≡ found_in list notes j)
 found-end {list} notes {j} {i} r h l =
     let e : i ≡ j = omega arith in
     let p = r.place ∙ ap (place_of list) e in
-    (p, ap (set (set notes last_number j) last_place) p)
+    (p, ap (λ (k : ℕ). record { begins = notes.begins; last = j; at = k }) p)
 
 -- a reader that notes where each 32nd name begins: it has come to name i
-pub record Noting (list : List ℕ) (n : ℕ) (notes : List ℕ) (at i : ℕ) : Type 0 where
+pub record Noting (list : List ℕ) (n : ℕ) (notes : Notes) (at i : ℕ) : Type 0 where
   pub up_to : i ≤ n
   pub reached : Reached list i at
   pub noted : notes ≡ notes_of list i
 
-pub noting_start : {list : List ℕ} {n : ℕ} {notes : List ℕ} → Notable list n notes → Noting list n notes 0 0
+pub noting_start : {list : List ℕ} {n : ℕ} {notes : Notes} → Notable list n notes → Noting list n notes 0 0
 unfolding up_to lengths
-noting_start {list} h = record { up_to = omega arith; reached = reached-start list; noted = h.zeros ∙ first }
+noting_start {list} h = record { up_to = omega arith; reached = reached-start list; noted = h.none ∙ first }
   where
-    first : replicate 1_024 0 ≡ notes_of list 0
+    first : no_notes ≡ notes_of list 0
     first = refl
 
-module _ {list : List ℕ} {n : ℕ} {notes : List ℕ} {at i : ℕ} (h : Noting list n notes at i) (l : i < n) {next : ℕ}
+module _ {list : List ℕ} {n : ℕ} {notes : Notes} {at i : ℕ} (h : Noting list n notes at i) (l : i < n) {next : ℕ}
     (r : Reached list (i + 1) next) where
   -- nothing is noted of a name that is no 32nd one
   pub noting_pass : ((i + 1) % 32 ≡ 0 → ⊥) → Noting list n notes next (i + 1)
@@ -158,11 +139,11 @@ module _ {list : List ℕ} {n : ℕ} {notes : List ℕ} {at i : ℕ} (h : Noting
       record {
         up_to = omega arith;
         reached = r;
-        noted = h.noted ∙ ap (λ (k : ℕ). pad_to 1_024 0 (up_to (block_of list) (k + 1))) e;
+        noted = h.noted ∙ ap (λ (k : ℕ). noted_up_to list (k + 1)) e;
       }
 
   -- a 32nd name
-  pub noting_more : (i + 1) % 32 ≡ 0 → n ≤ 32_000 → Noting list n (set notes ((i + 1) / 32) next) next (i + 1)
+  pub noting_more : (i + 1) % 32 ≡ 0 → n ≤ 32_000 → Noting list n (record { begins = set notes.begins ((i + 1) / 32) next; last = notes.last; at = notes.at }) next (i + 1)
   noting_more f few =
       let k = i / 32 + 1 in
       let e : (i + 1) / 32 ≡ i / 32 + 1 = omega arith in
@@ -170,12 +151,12 @@ module _ {list : List ℕ} {n : ℕ} {notes : List ℕ} {at i : ℕ} (h : Noting
       record {
         up_to = omega arith;
         reached = r;
-        noted = (λ t. set (h.noted t) (e t) next)
-            ∙ pad_up_to (block_of list) 0 1_024 k next (omega arith) (r.place ∙ ap (place_of list) (sym g))
-            ∙ ap (λ (j : ℕ). pad_to 1_024 0 (up_to (block_of list) (j + 1))) (sym e);
+        noted = (λ t. record { begins = set ((h.noted t).begins) (e t) next; last = (h.noted t).last; at = (h.noted t).at })
+            ∙ ap (λ (l : List ℕ). record { begins = l; last = 0; at = 0 }) (pad_up_to (block_of list) 0 1_022 k next (omega arith) (r.place ∙ ap (place_of list) (sym g)))
+            ∙ ap (λ (j : ℕ). noted_up_to list (j + 1)) (sym e);
       }
 
-pub noting_end : {list : List ℕ} {n : ℕ} {notes : List ℕ} {at i : ℕ} → Noting list n notes at i → n ≤ i
+pub noting_end : {list : List ℕ} {n : ℕ} {notes : Notes} {at i : ℕ} → Noting list n notes at i → n ≤ i
     → notes ≡ notes_of list n
 noting_end {list} {n} {i = i} h l =
     let e : i ≡ n = omega (arith, h.up_to) in

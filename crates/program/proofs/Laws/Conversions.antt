@@ -11,8 +11,8 @@ use Rattle.laws.specs.Lists.{splice}
 use Rattle.laws.proofs.Splices.{length-splice}
 use Rattle.laws.proofs.Stored.{take-stored}
 use Rattle.answer.specs.Answers.{told_of, refuses, after, Wrote, afterwards, stored}
-use Rattle.answer.specs.declared.Answer.{Answer}
-use Rattle.answer.specs.declared.Answer.TheVariants.{Accepted}
+use Rattle.answer.specs.Answers.{Answer}
+use Rattle.answer.specs.Answers.{accepted_with}
 use Rattle.answer.proofs.Laws.Order.{accepted-afterwards, accepted-stored}
 use Rattle.formula.specs.Checks.{checked}
 use Rattle.marks.specs.Sets.{set_checked}
@@ -43,7 +43,7 @@ module _ (t : List ℕ) (v : ℕ) (s before : List ℕ) (ok : refuses (converted
   bytes = clauses_bytes output
 
   abbrev said : Answer
-  said = Accepted (variables_of u (length ns)) (length output)
+  said = accepted_with (variables_of u (length ns)) (length output)
 
   -- the checks that were passed, one behind the other
   abbrev fitting : Wrote (List ℕ)
@@ -83,9 +83,9 @@ module _ (t : List ℕ) (v : ℕ) (s before : List ℕ) (ok : refuses (converted
       ∙ ap (λ (x : Size). room_of x.clauses x.literals) whole
       ∙ sym (length-clauses output)
     where
-      told : measured t v s ≡ Accepted (totals u ns).clauses (totals u ns).literals
+      told : measured t v s ≡ accepted_with (totals u ns).clauses (totals u ns).literals
       told =
-          let sum : Answer = Accepted (totals u ns).clauses (totals u ns).literals in
+          let sum : Answer = accepted_with (totals u ns).clauses (totals u ns).literals in
           ap (λ (b : Bool). cond b (checked t v) (after (set_checked ns s) sum)) table.0
           ∙ ap (λ (b : Bool). cond b (set_checked ns s) sum) set.0
 

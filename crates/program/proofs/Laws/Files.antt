@@ -11,8 +11,10 @@ use Rattle.laws.specs.Lists.{splice}
 use Rattle.laws.proofs.Splices.{length-splice}
 use Rattle.laws.proofs.Stored.{take-stored}
 use Rattle.answer.specs.Answers.{told_of, refuses, Wrote, stored}
-use Rattle.answer.specs.declared.Answer.{Answer}
-use Rattle.answer.specs.declared.Answer.TheVariants.{Accepted, Record, Line}
+use Rattle.answer.specs.Answers.{Answer}
+use Rattle.answer.specs.Answers.{accepted_with}
+use Rattle.std.specs.Prelude.{Err}
+use Rattle.answer.specs.declared.Refusal.TheVariants.{Record, Line}
 use Rattle.answer.proofs.Laws.Order.{accepted-afterwards}
 use Rattle.answer.proofs.Laws.Part.{stored-fits}
 use Rattle.formula.specs.Checks.{checked}
@@ -26,13 +28,13 @@ use Rattle.program.proofs.Laws.Shows.{unless_checked}
 
 module _ (text : List ℕ) where
   abbrev said : Answer
-  said = Accepted (option_count (line_of text 0)) (file_nodes text)
+  said = accepted_with (option_count (line_of text 0)) (file_nodes text)
 
   -- a file that is not refused is right
   right : refuses (file_checked text) ≡ false → (file_right text ≡ true) × (file_checked text ≡ said)
   right r = go (ltb most_bytes (length text)) (file_right text) refl r
     where
-      go : (a b : Bool) → file_right text ≡ b → let c = cond a (Line 0) (cond b said (Line (first_wrong text + 1))) in
+      go : (a b : Bool) → file_right text ≡ b → let c = cond a (Err (Line 0)) (cond b said (Err (Line (first_wrong text + 1)))) in
           refuses c ≡ false → (file_right text ≡ true) × (c ≡ said)
       go true b q r = let z : ◌≡◌ {A = ℕ} 0 1 = cc in absurd (omega arith)
       go false true q r = (q, refl)
@@ -40,8 +42,8 @@ module _ (text : List ℕ) where
 
   -- a fault of a record is printed with its number and its node
   pub fault-printed : (number node : ℕ) → refuses (file_checked text) ≡ false
-      → checked (file_table text) (option_count (line_of text 0)) ≡ Record number node → refuses (Record number node) ≡ true
-      → printed text ≡ refusal_line (Record number node)
+      → checked (file_table text) (option_count (line_of text 0)) ≡ Err (Record number) node → refuses (Err (Record number node)) ≡ true
+      → printed text ≡ refusal_line (Err (Record number node))
   fault-printed number node r e f = rw (r, e, f)
 
   module _ (before : List ℕ) (size : length before ≡ most_table) where

@@ -11,7 +11,7 @@ use Rattle.laws.proofs.Stored.{stored-length}
 use Rattle.text.specs.Texts.{decimal}
 use Rattle.text.proofs.Laws.Decimals.{length_decimal_le}
 use Rattle.answer.specs.Answers.{refuses, Wrote, afterwards}
-use Rattle.answer.specs.declared.Answer.{Answer}
+use Rattle.answer.specs.Answers.{Answer}
 use Rattle.answer.proofs.Laws.Order.{tested}
 use Rattle.program.specs.Printed.{field, refusal_line, unless_refused, Shows}
 

@@ -9,7 +9,8 @@ use lib.ListN.{length, take, replicate, length-replicate}
 use lib.Seq.{length-take-le}
 use borrow.Author.Tests.{eq-eqb}
 use Rattle.answer.specs.Answers.{refuses, Wrote}
-use Rattle.answer.specs.declared.Answer.TheVariants.{Set}
+use Rattle.std.specs.Prelude.{Err}
+use Rattle.answer.specs.declared.Refusal.TheVariants.{Set}
 use Rattle.answer.proofs.Laws.Order.{accepted-afterwards}
 use Rattle.formula.specs.Checks.{checked}
 use Rattle.formula.specs.Tables.{node_count, nodes_of}
@@ -35,7 +36,7 @@ module _ (t : List ℕ) (v : ℕ) (before : List ℕ) (size : length before ≡ 
   -- the buffer for the set is never refused
   under : chosen_under v ns allowance before ≡ chosen
   under =
-      ap (λ (b : Bool). cond b chosen (record { answer = Set (length ns); output = before }))
+      ap (λ (b : Bool). cond b chosen (record { answer = Err (Set (length ns)); output = before }))
       (eq-eqb (length before) (length ns) (size ∙ sym (length-nodes_of t)))
 
   pub choose-printed : table_printed t v ≡ unless_refused (chosen_by t v allowance before).answer (set_printed t v chosen.output)

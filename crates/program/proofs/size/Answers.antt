@@ -1,7 +1,7 @@
 -- `program::size` meets its contract: the room for what measuring tells. Assumes nothing.
 use mathlib.Core.Path.{ap, ◌∙◌}
 use Rattle.answer.specs.Answers.{told_of}
-use Rattle.answer.specs.declared.Answer.{Answer}
+use Rattle.answer.specs.Answers.{Answer}
 use Rattle.answer.specs.declared.Told.{Told}
 use Rattle.clausebytes.specs.Inner.Checks.{room_of}
 use Rattle.program.proofs.size.Goals as goal

@@ -1,10 +1,13 @@
 -- A number that is written from its last digit to its first.
 -- Assumes nothing.
-use mathlib.Core.Path.{◌≡◌, sym, ap, ◌∙◌}
+use mathlib.Core.Path.{◌≡◌, refl, sym, ap, ◌∙◌}
+use mathlib.Core.Bool.{Bool, true, false}
 use mathlib.Core.List.{List, [], ◌∷◌, ◌++◌, append_assoc, append-nil}
-use Prim.Native.Nat.{ℕ, suc, ◌+◌, ◌-◌, ◌/◌, ◌%◌, ◌≤◌, ◌<◌}
+use Prim.Native.Nat.{ℕ, suc, ◌+◌, ◌/◌, ◌%◌, ◌≤◌, ◌<◌}
 use native.Mathlib.Numerals.{add-one}
 use native.Mathlib.Omega.{arith}
+use borrow.Author.Tests.{ltb-true, ltb-false}
+use lib.Dec.{ltb}
 use lib.ListN.{length, set, take, drop, length-append}
 use lib.Seq.{set_split, take-append-le, take-take, drop_at, length-take-le}
 use Rattle.laws.specs.Lists.{splice}
@@ -12,7 +15,7 @@ use Rattle.laws.specs.Inner.Stores.{Stored}
 use Rattle.laws.proofs.Splices.{length-splice}
 use Rattle.laws.proofs.Stored.{stored-nothing}
 use Rattle.text.specs.Texts.{decimal}
-use Rattle.text.proofs.Laws.Decimals.{decimal-one, decimal-last, length_last, decimal-some}
+use Rattle.text.proofs.Laws.Decimals.{decimal-one, decimal-last}
 
 -- a byte in front of a run that is stored
 set_before : (l : List ℕ) (i d : ℕ) (xs : List ℕ) → i + 1 + length xs ≤ length l → set (splice l (i + 1) xs) i d ≡ splice l i (d ∷ xs)
@@ -27,55 +30,71 @@ set_before l i d xs h =
     ∙ (λ j. front j ++ (d ∷ behind j))
     ∙ ap (λ (q : ℕ). take i l ++ (d ∷ (xs ++ drop q l))) k
 
--- the digits behind those of `rest` are written, up to i
+-- the last digit of n, and those before it, which are its tenth's if there are any
+record Last (n : ℕ) : Type 0 where
+  front : List ℕ
+  split : decimal n ≡ front ++ ((48 + n % 10) ∷ [])
+  tenth : 0 < length front → front ≡ decimal (n / 10)
+
+last : (n : ℕ) → Last n
+last n = go (ltb n 10) refl
+  where
+    go : (b : Bool) → ltb n 10 ≡ b → Last n
+    go true e =
+        let h = ltb-true n 10 e in
+        let r : n % 10 ≡ n = omega arith in
+        record { front = []; split = rw r (decimal-one n h); tenth = λ s. absurd (omega arith) }
+    go false e = record { front = decimal (n / 10); split = decimal-last n (ltb-false n 10 e); tenth = λ s. refl }
+
+-- the digits from i on are written, and `rest` has those before them, if there are any
 pub record Backward (number : ℕ) (l : List ℕ) (at rest i : ℕ) (m : List ℕ) : Type 0 where
+  pub front : List ℕ
   pub tail : List ℕ
-  pub split : decimal number ≡ decimal rest ++ tail
-  pub place : i + 1 ≡ at + length (decimal rest)
-  pub list : m ≡ splice l (i + 1) tail
+  pub split : decimal number ≡ front ++ tail
+  pub place : i ≡ at + length front
+  pub left : at < i → front ≡ decimal rest
+  pub list : m ≡ splice l i tail
 
 module _ (number : ℕ) (l : List ℕ) (at : ℕ) (room : at + length (decimal number) ≤ length l) where
-  pub backward_start : (i : ℕ) → i + 1 ≡ at + length (decimal number) → Backward number l at number i l
+  pub backward_start : (i : ℕ) → i ≡ at + length (decimal number) → Backward number l at number i l
   backward_start i e = record {
+    front = decimal number;
     tail = [];
     split = sym (append-nil (decimal number));
     place = e;
-    list = (stored-nothing l (i + 1)).list;
+    left = λ h. refl;
+    list = (stored-nothing l i).list;
   }
 
   module _ {rest i : ℕ} {m : List ℕ} (b : Backward number l at rest i m) where
     -- what is written lies inside
-    within : i + 1 + length b.tail ≤ length l
-    within = omega (arith, b.place, ap length b.split ∙ length-append (decimal rest) b.tail)
+    within : i + length b.tail ≤ length l
+    within = omega (arith, b.place, ap length b.split ∙ length-append b.front b.tail)
 
-    pub backward_length : length m ≡ length l
-    backward_length = ap length b.list ∙ length-splice l (i + 1) b.tail within
-
-    pub backward_room : i < length m
-    backward_room = omega (arith, backward_length, within)
-
-    pub backward_more : 10 ≤ rest → Backward number l at (rest / 10) (i - 1) (set m i (48 + rest % 10))
-    backward_more h =
+    pub backward_more : (j : ℕ) → i ≡ j + 1 → at ≤ j → Backward number l at (rest / 10) j (set m j (48 + rest % 10))
+    backward_more j k h =
         let d : ℕ = 48 + rest % 10 in
-        let k : i - 1 + 1 ≡ i = omega (arith, b.place, length_last rest h, decimal-some (rest / 10)) in
+        let w = last rest in
+        let e : b.front ≡ w.front ++ (d ∷ []) = b.left (omega arith) ∙ w.split in
+        let n = ap length e ∙ length-append w.front (d ∷ []) in
         record {
+          front = w.front;
           tail = d ∷ b.tail;
-          split =
-              b.split ∙ ap (λ (x : List ℕ). x ++ b.tail) (decimal-last rest h) ∙ append_assoc (decimal (rest / 10)) (d ∷ []) b.tail;
-          place = omega (arith, k, b.place, length_last rest h);
+          split = b.split ∙ ap (λ (x : List ℕ). x ++ b.tail) e ∙ append_assoc w.front (d ∷ []) b.tail;
+          place = omega (arith, b.place, n);
+          left = λ s. w.tenth (omega (arith, b.place, n));
           list =
-              ap (λ (x : List ℕ). set x i d) b.list ∙ set_before l i d b.tail within
-              ∙ ap (λ (j : ℕ). splice l j (d ∷ b.tail)) (sym k);
+              ap (λ (x : List ℕ). set x j d) (b.list ∙ ap (λ (q : ℕ). splice l q b.tail) k)
+              ∙ set_before l j d b.tail (omega (arith, within));
         }
 
-    pub backward_end : (end : ℕ) → end ≡ at + length (decimal number) → rest < 10 → Stored (decimal number) l at end (set m i (48 + rest))
+    pub backward_end : (end : ℕ) → end ≡ at + length (decimal number) → i ≤ at → Stored (decimal number) l at end m
     backward_end end e h =
-        let one = decimal-one rest h in
-        let k : i ≡ at = omega (arith, b.place, ap length one) in
-        let whole : decimal number ≡ (48 + rest) ∷ b.tail = b.split ∙ ap (λ (x : List ℕ). x ++ b.tail) one in
-        record {
-          place = e;
-          list =
-              ap (λ (x : List ℕ). set x i (48 + rest)) b.list ∙ set_before l i (48 + rest) b.tail within
-              ∙ (λ j. splice l (k j) (sym whole j));
-        }
+        let none : b.front ≡ [] = empty b.front (omega (arith, b.place)) in
+        let k : i ≡ at = omega (arith, b.place) in
+        let whole : b.tail ≡ decimal number = sym (b.split ∙ ap (λ (x : List ℕ). x ++ b.tail) none) in
+        record { place = e; list = b.list ∙ (λ j. splice l (k j) (whole j)) }
+      where
+        empty : (xs : List ℕ) → length xs ≡ 0 → xs ≡ []
+        empty [] z = refl
+        empty (x ∷ xs) z = absurd (omega arith)

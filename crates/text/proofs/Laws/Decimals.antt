@@ -120,11 +120,11 @@ widening_start n = record {
 }
 
 module _ {n i power digits : ℕ} (w : Widening n i power digits) where
-  more_power : 10 * power ≡ 10 ^ (i + 1)
+  more_power : power * 10 ≡ 10 ^ (i + 1)
   more_power = let e : i + 1 ≡ suc i = omega arith in rw (e, pow-suc 10 i) (omega (arith, w.is_power))
 
   -- it is reached, or not
-  pub widening_more : power ≤ n → Widening n (i + 1) (10 * power) (digits + 1)
+  pub widening_more : power ≤ n → Widening n (i + 1) (power * 10) (digits + 1)
   widening_more h =
       let g : suc i ≤ length (decimal n) = length_decimal_ge i n (omega (arith, w.is_power)) in
       record {
@@ -133,7 +133,7 @@ module _ {n i power digits : ℕ} (w : Widening n i power digits) where
         above = λ k. omega (arith, w.below (omega arith));
       }
 
-  pub widening_same : 0 < i → n < power → Widening n (i + 1) (10 * power) digits
+  pub widening_same : 0 < i → n < power → Widening n (i + 1) (power * 10) digits
   widening_same z h =
       let e : i ≡ suc (i - 1) = omega arith in
       let g : length (decimal n) ≤ suc (i - 1) = length_decimal_le (i - 1) n (omega (arith, w.is_power, ap (λ (x : ℕ). 10 ^ x) e)) in

@@ -14,7 +14,7 @@ use Rattle.laws.specs.Lists.{Every, none, more}
 use Rattle.laws.proofs.Choices.{both}
 use Rattle.text.specs.Texts.{decimal, value_from, value_of, same, is_number}
 use Rattle.text.specs.Inner.Numbers.{is_digit, grown_of, number_of}
-use Rattle.text.specs.declared.number.Number.TheVariants.{Wrong, Is}
+use Rattle.std.specs.Prelude.{Some, None}
 use Rattle.text.proofs.Laws.Decimals.{decimal-some, decimal-taken}
 use Rattle.text.proofs.Laws.Numbers.{More, here, First, first_of_decimal, split_of_first, digit_value, grown_of_lem, Took, more_on}
 use Rattle.text.proofs.Laws.Numbers.{first_on, more-back, first_back}
@@ -74,27 +74,27 @@ pub decimal-whole : (most n : ℕ) → n ≤ most → is_number most (decimal n)
 decimal-whole most n h = rw (value-decimal n, same_self (decimal n)) (le-leb n most h)
 
 -- the reader of a number finds n exactly where the bytes are the decimal of n, and n is up to the limit
-pub number-decimal : (most n : ℕ) (bytes : List ℕ) → Is n ≡ number_of most bytes → (bytes ≡ decimal n) × (n ≤ most)
+pub number-decimal : (most n : ℕ) (bytes : List ℕ) → Some n ≡ number_of most bytes → (bytes ≡ decimal n) × (n ≤ most)
 number-decimal most n bytes e = go (is_number most bytes) refl e
   where
-    go : (b : Bool) → is_number most bytes ≡ b → Is n ≡ cond b (Is (value_of bytes)) Wrong → (bytes ≡ decimal n) × (n ≤ most)
+    go : (b : Bool) → is_number most bytes ≡ b → Some n ≡ cond b (Some (value_of bytes)) None → (bytes ≡ decimal n) × (n ≤ most)
     go true f g =
         let w = number-whole most bytes f in
         let v : value_of bytes ≡ n = cc in
         (w.0 ∙ ap decimal v, omega (arith, v, w.1))
     go false f g = let z : ◌≡◌ {A = ℕ} 0 1 = cc in absurd (omega arith)
 
-pub decimal-number : (most n : ℕ) → n ≤ most → Is n ≡ number_of most (decimal n)
+pub decimal-number : (most n : ℕ) → n ≤ most → Some n ≡ number_of most (decimal n)
 decimal-number most n h = rw (decimal-whole most n h, value-decimal n)
 
 -- nothing behind a number
 abbrev End : ℕ → List ℕ → Type 0
 End n r = r ≡ []
 
-not-number : (most : ℕ) (bytes : List ℕ) → (First 0 most End bytes → ⊥) → Wrong ≡ number_of most bytes
+not-number : (most : ℕ) (bytes : List ℕ) → (First 0 most End bytes → ⊥) → None ≡ number_of most bytes
 not-number most bytes n = go (is_number most bytes) refl
   where
-    go : (b : Bool) → is_number most bytes ≡ b → Wrong ≡ cond b (Is (value_of bytes)) Wrong
+    go : (b : Bool) → is_number most bytes ≡ b → None ≡ cond b (Some (value_of bytes)) None
     go true e =
         let w = number-whole most bytes e in
         let f = first_of_decimal 0 most End (omega arith) (value_of bytes) [] (omega arith) w.1 refl in
@@ -124,7 +124,7 @@ pub record Reading (most : ℕ) (bytes : List ℕ) (value i : ℕ) : Type 0 wher
   pub forth : First 0 most End bytes → Left most (ltb 0 i) value (drop i bytes)
   pub back : Left most (ltb 0 i) value (drop i bytes) → First 0 most End bytes
 
-pub reading_none : (most : ℕ) (bytes : List ℕ) → length bytes ≡ 0 → Wrong ≡ number_of most bytes
+pub reading_none : (most : ℕ) (bytes : List ℕ) → length bytes ≡ 0 → None ≡ number_of most bytes
 reading_none most [] h = not-number most [] none_first
   where
     none_first : First 0 most End [] → ⊥
@@ -159,13 +159,13 @@ module _ {most : ℕ} {bytes : List ℕ} {value i : ℕ} (r : Reading most bytes
     took : First 0 most End bytes → Took most End (ltb 0 i) value byte rest
     took f = left_on (ltb 0 i) (subst (Left most (ltb 0 i) value) next (r.forth f))
 
-    pub reading_no_digit : is_digit byte ≡ false → Wrong ≡ number_of most bytes
+    pub reading_no_digit : is_digit byte ≡ false → None ≡ number_of most bytes
     reading_no_digit e = not-number most bytes (λ f. let d = (took f).digit in let z : ◌≡◌ {A = ℕ} 0 1 = cc in omega arith)
 
-    pub reading_over : grown_of (ltb 0 i) value (byte - 48) most ≡ Wrong → Wrong ≡ number_of most bytes
+    pub reading_over : grown_of (ltb 0 i) value (byte - 48) most ≡ None → None ≡ number_of most bytes
     reading_over e = not-number most bytes (λ f. let d = (took f).grown in let z : ◌≡◌ {A = ℕ} 0 1 = cc in omega arith)
 
-    pub reading_more : (y : ℕ) → is_digit byte ≡ true → grown_of (ltb 0 i) value (byte - 48) most ≡ Is y → Reading most bytes y (i + 1)
+    pub reading_more : (y : ℕ) → is_digit byte ≡ true → grown_of (ltb 0 i) value (byte - 48) most ≡ Some y → Reading most bytes y (i + 1)
     unfolding value_from
     reading_more y d e =
         let g = grown_of_lem (ltb 0 i) value (byte - 48) most y e in
@@ -183,7 +183,7 @@ module _ {most : ℕ} {bytes : List ℕ} {value i : ℕ} (r : Reading most bytes
               (left_back (ltb 0 i) r.fresh (record { value = y; digit = d; grown = e; more = m })));
         }
 
-  pub reading_end : 0 < i → length bytes ≤ i → Is value ≡ number_of most bytes
+  pub reading_end : 0 < i → length bytes ≤ i → Some value ≡ number_of most bytes
   unfolding value_from
   reading_end o h =
       let e : drop i bytes ≡ [] = drop_of_length-le bytes h in
@@ -193,5 +193,5 @@ module _ {most : ℕ} {bytes : List ℕ} {value i : ℕ} (r : Reading most bytes
       let s = split_of_first (r.back l) in
       let d : bytes ≡ decimal s.value = s.split ∙ ap (λ (x : List ℕ). decimal s.value ++ x) s.next
       ∙ append-nil (decimal s.value) in
-      subst⁻¹ (λ (x : List ℕ). Is value ≡ number_of most x) d
-      (ap Is (sym v ∙ ap value_of d ∙ value-decimal s.value) ∙ decimal-number most s.value s.bound)
+      subst⁻¹ (λ (x : List ℕ). Some value ≡ number_of most x) d
+      (ap Some (sym v ∙ ap value_of d ∙ value-decimal s.value) ∙ decimal-number most s.value s.bound)

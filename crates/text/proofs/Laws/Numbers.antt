@@ -10,8 +10,7 @@ use borrow.Author.Tests.{leb-true, le-leb, lt-leb, eqb-false, ne_eqb, ltb-false,
 use Rattle.laws.proofs.Choices.{both}
 use Rattle.text.specs.Texts.{decimal}
 use Rattle.text.specs.Inner.Numbers.{is_digit, grown_of}
-use Rattle.text.specs.declared.number.Number.{Number}
-use Rattle.text.specs.declared.number.Number.TheVariants.{Wrong, Is}
+use Rattle.std.specs.Prelude.{Option, Some, None}
 use Rattle.text.proofs.Laws.Decimals.{decimal-one, decimal-more, decimal-taken}
 
 -- behind the digits of x: more digits within a limit, and then what may follow the number
@@ -117,10 +116,10 @@ digit_of_lem b e =
     record { value = omega arith; small = omega arith }
 
 -- the digit step
-pub grown-more : (x d most : ℕ) → 0 < x → x * 10 + d ≤ most → grown_of true x d most ≡ Is (x * 10 + d)
+pub grown-more : (x d most : ℕ) → 0 < x → x * 10 + d ≤ most → grown_of true x d most ≡ Some (x * 10 + d)
 grown-more x d most h g = rw (ne_eqb x 0 (λ e. omega arith), le-ltb most (x * 10 + d) g)
 
-pub grown-first : (d most : ℕ) → d ≤ most → grown_of false 0 d most ≡ Is d
+pub grown-first : (d most : ℕ) → d ≤ most → grown_of false 0 d most ≡ Some d
 grown-first d most h = let e : 0 * 10 + d ≡ d = omega arith in rw (e, le-ltb most d h)
 
 pub record Grown (begun : Bool) (x d most y : ℕ) : Type 0 where
@@ -129,11 +128,11 @@ pub record Grown (begun : Bool) (x d most y : ℕ) : Type 0 where
   pub some : begun ≡ true → 0 < x
 
 -- no fault was found
-passed_on : {y : ℕ} (b : Bool) (r : Number) → cond b Wrong r ≡ Is y → (b ≡ false) × (r ≡ Is y)
+passed_on : {y : ℕ} (b : Bool) (r : Option ℕ) → cond b None r ≡ Some y → (b ≡ false) × (r ≡ Some y)
 passed_on true r e = let z : ◌≡◌ {A = ℕ} 0 1 = cc in absurd (omega arith)
 passed_on false r e = (refl, e)
 
-pub grown_of_lem : (begun : Bool) (x d most y : ℕ) → grown_of begun x d most ≡ Is y → Grown begun x d most y
+pub grown_of_lem : (begun : Bool) (x d most y : ℕ) → grown_of begun x d most ≡ Some y → Grown begun x d most y
 grown_of_lem begun x d most y e =
     let f = passed_on (begun && eqb x 0) _ e in
     let g = passed_on (ltb most (x * 10 + d)) _ f.1 in
@@ -148,7 +147,7 @@ grown_of_lem begun x d most y e =
 pub record Took (most : ℕ) (Next : ℕ → List ℕ → Type 0) (begun : Bool) (x b : ℕ) (t : List ℕ) : Type 0 where
   pub value : ℕ
   pub digit : is_digit b ≡ true
-  pub grown : grown_of begun x (b - 48) most ≡ Is value
+  pub grown : grown_of begun x (b - 48) most ≡ Some value
   pub more : More most Next value t
 
 module _ {most : ℕ} {Next : ℕ → List ℕ → Type 0} where

@@ -10,15 +10,13 @@ use lib.Dec.{eqb, leb}
 use lib.ListN.{length, get_or, take, drop, length-drop, drop_of_length-le}
 use lib.Seq.{drop-cons, drop-drop, take_all}
 use borrow.Author.Tests.{leb-true, leb-false, le-leb, lt-leb, eq-eqb, ne_eqb, eqb-true, not-true}
+use Rattle.std.specs.Prelude.{Option, Some, None}
 use Rattle.laws.specs.Lists.{Every, none, more}
 use Rattle.laws.proofs.Choices.{both}
 use Rattle.text.specs.Texts.{decimal, value_of, is_number, ahead, parted, joined}
 use Rattle.text.specs.Inner.Numbers.{is_digit, number_of}
 use Rattle.text.specs.Inner.Pieces.{spot, MarkAt, piece_at, field_at}
-use Rattle.text.specs.declared.number.Number.{Number}
-use Rattle.text.specs.declared.number.Number.TheVariants as number
 use Rattle.text.specs.declared.piece.Field.{Field}
-use Rattle.text.specs.declared.piece.Field.TheVariants as field
 use Rattle.text.proofs.Laws.Fields.{decimal-digits}
 
 -- the pieces from a place on; none past the end
@@ -138,16 +136,16 @@ module _ (mark : ℕ) where
       parted-next m ∙ ap (λ (n : ℕ). take n t ∷ pieces_at mark t (end + 1)) k
 
 -- what is found of a number, as a field
-abbrev pub field_of : Number → ℕ → Field
-field_of number.Wrong next = field.Wrong
-field_of (number.Is v) next = field.Is v next
+abbrev pub field_of : Option ℕ → ℕ → Option Field
+field_of None next = None
+field_of (Some v) next = Some (record { value = v; next = next })
 
 module _ (mark most : ℕ) (t : List ℕ) (at : ℕ) where
   -- the field from a place on, by the mark that is found
-  pub field_past : length t < at → field.Wrong ≡ field_at mark most t at
+  pub field_past : length t < at → None ≡ field_at mark most t at
   field_past h = rw (lt-leb at (length t) h)
 
-  pub field_found : {end : ℕ} (x : Number) → MarkAt mark t at end → x ≡ number_of most (take (end - at) (drop at t))
+  pub field_found : {end : ℕ} (x : Option ℕ) → MarkAt mark t at end → x ≡ number_of most (take (end - at) (drop at t))
       → field_of x (end + 1) ≡ field_at mark most t at
   field_found {end} x m e =
       let k : end - at ≡ spot mark (drop at t) = omega (arith, m.place) in
@@ -156,8 +154,8 @@ module _ (mark most : ℕ) (t : List ℕ) (at : ℕ) where
       (λ i. field_of ((e ∙ ap (λ (j : ℕ). number_of most (take j (drop at t))) k) i) (n i))
       ∙ rw (le-leb at (length t) (omega (arith, m.behind, m.within))) (go (is_number most piece))
     where
-      go : (b : Bool) → field_of (cond b (number.Is (value_of (piece_at mark t at))) number.Wrong) (at + spot mark (drop at t) + 1)
-          ≡ cond b (field.Is (value_of (piece_at mark t at)) (at + spot mark (drop at t) + 1)) field.Wrong
+      go : (b : Bool) → field_of (cond b (Some (value_of (piece_at mark t at))) None) (at + spot mark (drop at t) + 1)
+          ≡ cond b (Some (record { value = value_of (piece_at mark t at); next = at + spot mark (drop at t) + 1 })) None
       go true = refl
       go false = refl
 
@@ -173,9 +171,9 @@ module _ (mark most : ℕ) (t : List ℕ) (at : ℕ) where
     pub number : is_number most piece ≡ true
     pub same : v ≡ value_of piece
 
-  abbrev pub FieldFound : Field → Type 0
-  FieldFound field.Wrong = NoField
-  FieldFound (field.Is v next) = FieldIs v next
+  abbrev pub FieldFound : Option Field → Type 0
+  FieldFound None = NoField
+  FieldFound (Some f) = FieldIs f.value f.next
 
   pub field_of_lem : FieldFound (field_at mark most t at)
   field_of_lem = inside (leb at (length t)) refl
@@ -184,18 +182,18 @@ module _ (mark most : ℕ) (t : List ℕ) (at : ℕ) where
       next = at + spot mark (drop at t) + 1
 
       found : (b : Bool) → is_number most (piece_at mark t at) ≡ b → at ≤ length t
-          → FieldFound (cond b (field.Is (value_of (piece_at mark t at)) (at + spot mark (drop at t) + 1)) field.Wrong)
+          → FieldFound (cond b (Some (record { value = value_of (piece_at mark t at); next = at + spot mark (drop at t) + 1 })) None)
       found true e h = record { piece = piece_at mark t at; pieces = pieces-at mark t at h; number = e; same = refl }
       found false e h = other (piece_at mark t at) (pieces_at mark t (at + spot mark (drop at t) + 1)) (pieces-at mark t at h) e
 
       inside : (b : Bool) → leb at (length t) ≡ b
           → FieldFound (cond b (cond (is_number most (piece_at mark t at))
-          (field.Is (value_of (piece_at mark t at)) (at + spot mark (drop at t) + 1)) field.Wrong) field.Wrong)
+          (Some (record { value = value_of (piece_at mark t at); next = at + spot mark (drop at t) + 1 })) None) None)
       inside true e = found (is_number most (piece_at mark t at)) refl (leb-true at (length t) e)
       inside false e = missing (pieces-past mark t at (leb-false at (length t) e))
 
   -- the same of a field that was found, and turned out to be g
-  pub field_told : {f g : Field} → f ≡ field_at mark most t at → f ≡ g → FieldFound g
+  pub field_told : {f g : Option Field} → f ≡ field_at mark most t at → f ≡ g → FieldFound g
   field_told e h = subst FieldFound (sym e ∙ h) field_of_lem
 
 module _ (mark : ℕ) where

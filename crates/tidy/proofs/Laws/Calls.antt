@@ -9,11 +9,13 @@ use lib.Dec.{ltb}
 use lib.ListN.{length}
 use borrow.Author.Tests.{lt-ltb, le-ltb}
 use Rattle.laws.specs.Lists.{splice}
-use Rattle.answer.specs.declared.Answer.TheVariants.{Accepted, ClauseBytes, Room}
+use Rattle.answer.specs.Answers.{accepted_with}
+use Rattle.std.specs.Prelude.{Err}
+use Rattle.answer.specs.declared.Refusal.TheVariants.{ClauseBytes, Room}
 use Rattle.clausal.specs.Clauses.{Clause, clauses_bytes}
 use Rattle.clausebytes.specs.Words.{clauses_of}
 use Rattle.clausebytes.specs.Inner.Checks.{checked_of}
-use Rattle.clausebytes.specs.declared.check.Checked.TheVariants.{Wrong}
+use Rattle.std.specs.Prelude.{None}
 use Rattle.clausebytes.proofs.Laws.Checking.{Found, refused_of_checked}
 use Rattle.tidied.specs.Tidying.{tidied, changes_of, change_lines}
 use Rattle.tidied.specs.Calls.{Outputs, tidy_call}
@@ -32,8 +34,8 @@ abbrev lines_size : List ℕ → ℕ
 lines_size bytes = length (change_lines (changes_of (clauses_of bytes)))
 
 -- refusal 9
-pub call_refused : (bytes : List ℕ) (v : ℕ) (out lines : List ℕ) → checked_of bytes v ≡ Wrong
-    → record { answer = ClauseBytes; output = outputs out lines } ≡ tidy_call bytes v (outputs out lines)
+pub call_refused : (bytes : List ℕ) (v : ℕ) (out lines : List ℕ) → checked_of bytes v ≡ None
+    → record { answer = Err ClauseBytes; output = outputs out lines } ≡ tidy_call bytes v (outputs out lines)
 call_refused bytes v out lines e = rw (refused_of_checked bytes v e)
 
 -- all clauses were measured, or written
@@ -61,19 +63,19 @@ module _ {bytes : List ℕ} {v k n : ℕ} (f : Found bytes v k n) {out lines : L
 
     -- either buffer is too short
     short : (ltb (length out) (kept_size bytes) || ltb (length lines) (lines_size bytes)) ≡ true
-        → record { answer = Room; output = outputs mid left } ≡ tidy_call bytes v (outputs out lines)
+        → record { answer = Err Room; output = outputs mid left } ≡ tidy_call bytes v (outputs out lines)
     short e =
-        (λ i. record { answer = Room; output = outputs (d.kept_put.list i) (d.lines_put.list i) })
+        (λ i. record { answer = Err Room; output = outputs (d.kept_put.list i) (d.lines_put.list i) })
         ∙ sym (rw (f.not_wrong, e))
 
     pub call_kept_short : length mid < q.kept
-        → record { answer = Room; output = outputs mid left } ≡ tidy_call bytes v (outputs out lines)
+        → record { answer = Err Room; output = outputs mid left } ≡ tidy_call bytes v (outputs out lines)
     call_kept_short h =
         let less : length out < kept_size bytes = omega (arith, kept-size, ap length d.kept_put.list) in
         short (rw (lt-ltb (length out) (kept_size bytes) less))
 
     pub call_lines_short : length left < q.lines
-        → record { answer = Room; output = outputs mid left } ≡ tidy_call bytes v (outputs out lines)
+        → record { answer = Err Room; output = outputs mid left } ≡ tidy_call bytes v (outputs out lines)
     call_lines_short h =
         let less : length lines < lines_size bytes = omega (arith, lines-size, ap length d.lines_put.list) in
         short (rw (lt-ltb (length lines) (lines_size bytes) less) (go (ltb (length out) (kept_size bytes))))
@@ -99,7 +101,7 @@ module _ {bytes : List ℕ} {v k n : ℕ} (f : Found bytes v k n) {out lines : L
           rw (le-ltb (length out) (kept_size bytes) a, le-ltb (length lines) (lines_size bytes) b)
 
       pub call_written : {o l : List ℕ} {r : Pen} → DrawnAll (clauses_of bytes) true mid left o l r
-          → record { answer = Accepted q.changes q.clauses; output = outputs o l }
+          → record { answer = accepted_with q.changes q.clauses; output = outputs o l }
           ≡ tidy_call bytes v (outputs out lines)
       call_written {o} {l} e =
           let cs = clauses_of bytes in
@@ -109,5 +111,5 @@ module _ {bytes : List ℕ} {v k n : ℕ} (f : Found bytes v k n) {out lines : L
           let lines-out = change_lines (changes_of cs) in
           let kept = e.kept_put.list ∙ ap (λ (b : List ℕ). splice b 0 bytes-out) d.kept_put.list in
           let told = e.lines_put.list ∙ ap (λ (b : List ℕ). splice b 0 lines-out) d.lines_put.list in
-          (λ i. record { answer = Accepted (changes i) (clauses i); output = outputs (kept i) (told i) })
+          (λ i. record { answer = accepted_with (changes i) (clauses i); output = outputs (kept i) (told i) })
           ∙ sym (rw (f.not_wrong, fits))

@@ -1,5 +1,5 @@
 -- A loop that puts the clauses of a window: what it knows at each turn. Assumes nothing.
-use mathlib.Core.Path.{◌≡◌, sym, ap, ◌∙◌, subst, subst⁻¹}
+use mathlib.Core.Path.{◌≡◌, sym, ap, ◌∙◌, subst}
 use mathlib.Core.List.{List, []}
 use Prim.Native.Nat.{ℕ, ◌+◌, ◌-◌, ◌≤◌, ◌<◌}
 use native.Mathlib.Omega.{arith}
@@ -19,21 +19,19 @@ use Rattle.tidy.proofs.Laws.Sections.{drawable-one, drawn-one}
 
 -- i clauses of the window were put
 pub record Passing (bytes : List ℕ) (start count : ℕ) (out lines : List ℕ) (pen : Pen)
-    (mid left : List ℕ) (drawn : Pen) (at number i : ℕ) : Type 0 where
+    (mid left : List ℕ) (drawn : Pen) (at i : ℕ) : Type 0 where
   pub within : i ≤ count
   pub at_is : at ≡ place_of bytes (start + i)
-  pub number_is : number ≡ start + i
   pub drawn-is : DrawnIn (clauses_of bytes) start i out lines pen mid left drawn
 
 module _ {bytes : List ℕ} {start place count : ℕ} {firsts out lines row : List ℕ} {pen : Pen}
     (p : Passable bytes start place count firsts out lines row pen) where
-  pub passing_start : Passing bytes start count out lines pen out lines pen place start 0
+  pub passing_start : Passing bytes start count out lines pen out lines pen place 0
   passing_start =
       let e : start ≡ start + 0 = omega arith in
       record {
         within = omega arith;
         at_is = p.place_is ∙ ap (place_of bytes) e;
-        number_is = e;
         drawn-is = drawn-none (clauses_of bytes) start out lines pen p.drawable.told.low;
       }
 
@@ -44,22 +42,24 @@ module _ {bytes : List ℕ} {start place count : ℕ} {firsts out lines row : Li
       drawable-first (clauses_of bytes) start i (count - i)
       (subst (λ (k : ℕ). DrawableIn (clauses_of bytes) start k out lines pen) e p.drawable)
 
-  module _ {mid left : List ℕ} {drawn : Pen} {at number i : ℕ}
-      (w : Passing bytes start count out lines pen mid left drawn at number i) where
+  module _ {mid left : List ℕ} {drawn : Pen} {at i : ℕ}
+      (w : Passing bytes start count out lines pen mid left drawn at i) where
     -- buffers stay as long as they are
     pub lengths-same : (length mid ≡ length out) × (length left ≡ length lines)
     lengths-same = drawn-lengths (part_room i w.within) w.drawn-is
 
-    -- clause i of the window
+    -- clause i of the window, and its number
+    abbrev number : ℕ
+    number = start + i
+
     module _ (here : i < count) where
       first-here : get_or firsts i 0 ≡ first_of bytes number
-      first-here = p.firsts_are i here ∙ ap (first_of bytes) (sym w.number_is)
+      first-here = p.firsts_are i here
 
       clause-here : clause_from bytes at ≡ get_or (clauses_of bytes) number []
       clause-here =
           ap (clause_from bytes) w.at_is
           ∙ clause-at bytes p.closed (start + i) (omega (arith, p.within))
-          ∙ ap (λ (n : ℕ). get_or (clauses_of bytes) n []) (sym w.number_is)
 
       abbrev kept_here : List Clause
       kept_here = kept_of (fate_for number (get_or firsts i 0) (clause_from bytes at)) (clause_from bytes at)
@@ -70,23 +70,20 @@ module _ {bytes : List ℕ} {start place count : ℕ} {firsts out lines row : Li
       pub passing_room : Drawable (clauses_bytes kept_here) (length kept_here) changes_here mid left drawn
       passing_room =
           drawable-one bytes number (get_or firsts i 0) (clause_from bytes at) first-here clause-here
-          (subst⁻¹ (λ (n : ℕ). DrawableIn (clauses_of bytes) n 1 mid left drawn) w.number_is
-          (drawable-next (clauses_of bytes) start i 1 (part_room (i + 1) (omega arith)) w.drawn-is))
+          (drawable-next (clauses_of bytes) start i 1 (part_room (i + 1) (omega arith)) w.drawn-is)
 
       pub passing_next : {o l : List ℕ} {r : Pen}
           → Drawn (clauses_bytes kept_here) (length kept_here) changes_here mid left drawn o l r
           → (end : ℕ) → end ≡ end_from bytes at
-          → Passing bytes start count out lines pen o l r (end + 1) (number + 1) (i + 1)
+          → Passing bytes start count out lines pen o l r (end + 1) (i + 1)
       passing_next {o} {l} {r} d end e =
           let n : start + (i + 1) ≡ start + i + 1 = omega arith in
           record {
             within = omega arith;
             at_is = ap (λ (x : ℕ). x + 1) (e ∙ ap (end_from bytes) w.at_is) ∙ sym (after-suc bytes 0 (start + i))
                 ∙ ap (place_of bytes) (sym n);
-            number_is = omega (arith, w.number_is);
             drawn-is = drawn-next (clauses_of bytes) start i 1 (part_room (i + 1) (omega arith)) w.drawn-is
-                (subst (λ (m : ℕ). DrawnIn (clauses_of bytes) m 1 mid left drawn o l r) w.number_is
-                (drawn-one bytes number (get_or firsts i 0) (clause_from bytes at) first-here clause-here d));
+                (drawn-one bytes number (get_or firsts i 0) (clause_from bytes at) first-here clause-here d);
           }
 
     -- the end: all were put

@@ -1,13 +1,12 @@
 -- Windows of clauses: places, signatures and slots, and the numbers of the first clauses that have the same literals.
 -- Assumes nothing: these are definitions.
-use Rattle.std.specs.Prelude.{Bool, true, cond, ◌&&◌, List, [], ◌≡◌, ℕ, zero, suc, ◌+◌, ◌*◌, ◌%◌, ◌^◌, ◌<◌, ◌≤◌, eqb, length, get_or, replicate}
+use Rattle.std.specs.Prelude.{Bool, true, cond, ◌&&◌, List, [], ◌≡◌, ℕ, zero, suc, ◌+◌, ◌*◌, ◌%◌, ◌^◌, ◌<◌, ◌≤◌, eqb, length, get_or, replicate, Option, Some, None}
 use Rattle.clausebytes.specs.Words.{words_of, clauses_of, closed_from, most_clauses}
 use Rattle.bits.specs.Inner.Rows.{has_bit}
 use Rattle.tidied.specs.Tidying.{same_literals}
 use Rattle.tidied.specs.Inner.Firsts.{first_below}
 use Rattle.sets.specs.Inner.Sets.{clause_from, end_from, sign_of, seeds, Ready}
 use Rattle.tidy.specs.declared.window.Spot.{Spot}
-use Rattle.tidy.specs.declared.window.Found.{Found}
 use Rattle.tidy.specs.declared.window.Firsts as declared
 
 -- the place of the clause that is n clauses behind the one at place p, and of clause n
@@ -92,7 +91,7 @@ pub record Scanned (bytes : List ℕ) (spot : Spot) (count : ℕ) (places signs 
       ≡ first_after (get_or before i 0) (same_literals (clause_from bytes (get_or places i 0)) (clause_from bytes spot.place)) spot.number
   pub slotted : Slotted count (Open firsts) signs slots
 
--- what is given when the clauses of a window are looked for, and what is found where it is not given up
+-- what is given when the clauses of a window are looked for, and what is found; it is given up only under a limit
 pub record Searchable (bytes : List ℕ) (start place count seed : ℕ) (row : List ℕ) : Type 0 where
   pub ready : Ready bytes row
   pub long : length bytes < 2 ^ 32
@@ -110,9 +109,9 @@ first_of bytes n = first_below (clauses_of bytes) (get_or (clauses_of bytes) n [
 abbrev pub Firsts : List ℕ → ℕ → ℕ → List ℕ → Type 0
 Firsts bytes start count firsts = (i : ℕ) → i < count → get_or firsts i 0 ≡ first_of bytes (start + i)
 
-pub record Searched (bytes : List ℕ) (start count limit : ℕ) (found : Found) : Type 0 where
-  pub unlimited : most * none ≤ limit → found.done ≡ true
-  pub firsts_are : found.done ≡ true → Firsts bytes start count found.firsts
+abbrev pub Searched : List ℕ → ℕ → ℕ → ℕ → Option (List ℕ) → Type 0
+Searched bytes start count limit None = limit < most * none
+Searched bytes start count limit (Some firsts) = Firsts bytes start count firsts
 
 pub record FirstsFound (bytes : List ℕ) (start count : ℕ) (found : declared.Firsts) : Type 0 where
   pub seed_few : found.seed < seeds

@@ -1,12 +1,10 @@
 -- `clausebytes::check::check` meets its contract: each word is looked at once; the first fault decides, and without one all is counted.
 -- Assumes nothing.
-use mathlib.Core.Path.{refl, subst}
+use mathlib.Core.Path.{subst}
 use mathlib.Core.List.{List, [], ◌∷◌}
-use mathlib.Core.Logic.{⊎_elim}
-use Prim.Native.Nat.{ℕ, ◌+◌, ◌-◌}
+use Prim.Native.Nat.{ℕ, ◌+◌}
 use native.Mathlib.Omega.{arith}
 use lib.ListN.{drop}
-use borrow.Author.Tests.{not-true, not-false}
 use Rattle.clausebytes.specs.Words.{words_of}
 use Rattle.clausebytes.proofs.Laws.Words.{words_next, words_end}
 use Rattle.clausebytes.proofs.Laws.Checking.{Checking, checking_start, checking_zero, checking_literal, found-many, found_part}
@@ -24,7 +22,7 @@ ahead c =
     let l = c.loop-i in
     let x = c.args in
     subst (λ (r : List ℕ). Checking x.variables (words_of x.bytes.now) r l.closed l.clauses l.literals)
-    (words_next x.bytes.now l.i c.word_at-word.result (omega arith) c.word_at-word.ensures) l.invariant.4
+    (words_next x.bytes.now l.i c.word_at-word.result (omega arith) c.word_at-word.ensures) l.invariant.2
 
 -- a clause too many, a magnitude over the variables, a literal too many
 pub returns-then-clauses-ge-MOST_CLAUSES : goal.returns-then-clauses-ge-MOST_CLAUSES
@@ -48,10 +46,8 @@ pub loop-i-preserved : goal.loop-i-preserved
 loop-i-preserved c =
     let l = c.loop-i in
     let x = c.args in (
-      refl,
+      l.invariant.0,
       l.invariant.1,
-      l.invariant.2,
-      omega arith,
       elim c.if-word-eq0.branch [
         | then-word-eq0+else-clauses-ge-MOST_CLAUSES w ↦ rw (w.closed-is, w.clauses-is, w.literals-is)
             (checking_zero x.bytes.now x.variables c.word_at-word.result (ahead (goal.at.loop-i-preserved c).After-word_at-word) w.if-word-eq0.true w.if-clauses-ge-MOST_CLAUSES.false)
@@ -70,18 +66,18 @@ ended c =
     let l = c.loop-i in
     let x = c.args in
     subst (λ (r : List ℕ). Checking x.variables (words_of x.bytes.now) r l.closed l.clauses l.literals)
-    (words_end x.bytes.now l.i c.loop-i-test.false) l.invariant.4
+    (words_end x.bytes.now l.i c.loop-i-test.false) l.invariant.2
 
 pub returns-then-not-closed : goal.returns-then-not-closed
 returns-then-not-closed c =
     let x = c.args in
-    found-open x.bytes.now x.variables (ended (goal.at.returns-then-not-closed c).After-loop-i) (not-true _ c.if-not-closed.true-raw)
+    found-open x.bytes.now x.variables (ended (goal.at.returns-then-not-closed c).After-loop-i) c.if-not-closed.true
 
 pub returns : goal.returns
 returns c =
     let l = c.loop-i in
     let x = c.args in
-    found_right x.bytes.now x.variables (ended (goal.at.returns c).After-loop-i) l.invariant.2 l.invariant.1 (not-false _ c.if-not-closed.false-raw)
+    found_right x.bytes.now x.variables (ended (goal.at.returns c).After-loop-i) l.invariant.1 l.invariant.0 c.if-not-closed.false
 
 pub returns-then-variables-gt-MOST_VARIABLES : goal.returns-then-variables-gt-MOST_VARIABLES
 returns-then-variables-gt-MOST_VARIABLES c =
@@ -93,4 +89,4 @@ returns-then-bytes-ne0 c =
 
 pub loop-i-init : goal.loop-i-init
 loop-i-init c =
-    (omega arith, c.if-variables-gt-MOST_VARIABLES.false, c.if-bytes-ne0.false, omega arith, checking_start _ _)
+    (c.if-variables-gt-MOST_VARIABLES.false, c.if-bytes-ne0.false, checking_start _ _)

@@ -1,7 +1,7 @@
 -- `kept::clause::put_literals` meets its contract: each literal is put or told, and marked. Assumes nothing.
-use mathlib.Core.Path.{◌≡◌, refl, sym, ap, ◌∙◌, subst⁻¹}
+use mathlib.Core.Path.{◌≡◌, sym, ap, ◌∙◌, subst⁻¹}
 use mathlib.Core.List.{List, []}
-use Prim.Native.Nat.{ℕ, ◌*◌, ◌-◌, ◌/◌, ◌≤◌, ◌<◌}
+use Prim.Native.Nat.{ℕ, ◌*◌, ◌/◌, ◌≤◌, ◌<◌}
 use native.Mathlib.Omega.{arith}
 use lib.ListN.{length, length-replicate}
 use Rattle.bits.specs.Inner.Rows.{with_bits}
@@ -16,22 +16,20 @@ use Rattle.kept.proofs.clause.put_literals.Goals as goal
 
 pub loop-i-init : goal.loop-i-init
 loop-i-init c =
-    let x = c.args in (
-      refl,
-      subst⁻¹ (λ (row : List ℕ). Spelling x.bytes.now x.clause x.from x.from x.out.now x.lines.now x.pen
-          x.out.now x.lines.now row x.pen) c.requires.ready.empty
-          (spelling_start x.bytes.now x.clause x.from x.out.now x.lines.now x.pen c.requires.drawable.told.low),
-    )
+    let x = c.args in
+    subst⁻¹ (λ (row : List ℕ). Spelling x.bytes.now x.clause x.from x.from x.out.now x.lines.now x.pen
+    x.out.now x.lines.now row x.pen) c.requires.ready.empty
+    (spelling_start x.bytes.now x.clause x.from x.out.now x.lines.now x.pen c.requires.drawable.told.low)
 
 -- buffers and row are as long as they were
 lengths : (c : At-loop-i)
     → let x = c.args in
     (length c.loop-i.out ≡ length x.out.now) × (length c.loop-i.lines ≡ length x.lines.now)
-lengths c = drawing_lengths c.requires.drawable c.loop-i.invariant.1.drawing
+lengths c = drawing_lengths c.requires.drawable c.loop-i.invariant.drawing
 
 row-length : (c : At-loop-i) → length c.loop-i.row ≡ length c.args.row.now
 row-length c =
-    c.loop-i.invariant.1.marking.size ∙ sym (ap length c.requires.ready.empty ∙ length-replicate {A = ℕ} row_bytes 0)
+    c.loop-i.invariant.marking.size ∙ sym (ap length c.requires.ready.empty ∙ length-replicate {A = ℕ} row_bytes 0)
 
 -- the end of the clause: all is marked
 marked : (c : At-loop-i) → let x = c.args in
@@ -39,19 +37,19 @@ marked : (c : At-loop-i) → let x = c.args in
     → c.loop-i.row ≡ with_bits (codes_of (clause_from x.bytes.now x.from)) x.row.now
 marked c end =
     let x = c.args in
-    marking_row c.loop-i.invariant.1.marking end
+    marking_row c.loop-i.invariant.marking end
     ∙ ap (with_bits (codes_of (clause_from x.bytes.now x.from))) (sym c.requires.ready.empty)
 
 pub returns-then-word-eq0 : goal.returns-then-word-eq0
 returns-then-word-eq0 c =
     let bytes = c.args.bytes.now in
     let end = clause-zero bytes c.loop-i.i c.word_at-word.result (omega arith) c.word_at-word.ensures c.if-word-eq0.true in
-    (spelling_end c.loop-i.invariant.1 end, marked (goal.at.returns-then-word-eq0 c).At-loop-i end)
+    (spelling_end c.loop-i.invariant end, marked (goal.at.returns-then-word-eq0 c).At-loop-i end)
 
 pub returns : goal.returns
 returns c =
     let none = clause-end c.args.bytes.now c.loop-i.i c.loop-i-test.false in
-    (spelling_end c.loop-i.invariant.1 none, marked (goal.at.returns c).At-loop-i none)
+    (spelling_end c.loop-i.invariant none, marked (goal.at.returns c).At-loop-i none)
 
 small : (c : Else-word-eq0) → (literal_of c.word_at-word.result).variable ≤ most_variables
 small c =
@@ -65,7 +63,7 @@ inside c =
       arith,
       c.code-n.ensures,
       code_inside (literal_of c.word_at-word.result) (small (goal.at.After-code-n c).Else-word-eq0),
-      c.loop-i.invariant.1.marking.size,
+      c.loop-i.invariant.marking.size,
     )
 
 here : (c : After-has-seen) → c.loop-i.i < length c.args.bytes.now / 4
@@ -73,16 +71,14 @@ here c = omega (arith, c.loop-i-test.true)
 
 pub put_literal-drawn-requires : goal.put_literal-drawn-requires
 put_literal-drawn-requires c =
-    spelling_room c.loop-i.invariant.1 c.requires.drawable c.word_at-word.result (omega arith) (here (goal.at.put_literal-drawn-requires c).After-has-seen) c.word_at-word.ensures
+    spelling_room c.loop-i.invariant c.requires.drawable c.word_at-word.result (omega arith) (here (goal.at.put_literal-drawn-requires c).After-has-seen) c.word_at-word.ensures
     c.if-word-eq0.false c.code-n.result c.code-n.ensures c.has-seen.result c.has-seen.ensures
 
 pub loop-i-preserved : goal.loop-i-preserved
-loop-i-preserved c = (
-  refl,
-  spelling_more c.loop-i.invariant.1 c.requires.drawable c.word_at-word.result (omega arith) (here (goal.at.loop-i-preserved c).After-has-seen) c.word_at-word.ensures
-      c.if-word-eq0.false c.code-n.result c.code-n.ensures c.has-seen.result c.has-seen.ensures (small (goal.at.loop-i-preserved c).Else-word-eq0)
-      c.put_literal-drawn.ensures _ c.put.ensures,
-)
+loop-i-preserved c =
+    spelling_more c.loop-i.invariant c.requires.drawable c.word_at-word.result (omega arith) (here (goal.at.loop-i-preserved c).After-has-seen) c.word_at-word.ensures
+    c.if-word-eq0.false c.code-n.result c.code-n.ensures c.has-seen.result c.has-seen.ensures (small (goal.at.loop-i-preserved c).Else-word-eq0)
+    c.put_literal-drawn.ensures _ c.put.ensures
 
 pub shape_of-out-then-word-eq0 : goal.shape_of-out-then-word-eq0
 shape_of-out-then-word-eq0 c =
@@ -106,7 +102,7 @@ has-seen-requires c =
 
 pub overflow_sub-i : goal.overflow_sub-i
 overflow_sub-i c =
-    omega (arith, c.loop-i.invariant.1.onward)
+    omega (arith, c.loop-i.invariant.onward)
 
 pub overflow_cast-i : goal.overflow_cast-i
 overflow_cast-i c =

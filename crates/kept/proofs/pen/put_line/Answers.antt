@@ -1,10 +1,9 @@
 -- `kept::pen::put_line` meets its contract: the parts are measured and added, or written one behind the other.
 -- Assumes nothing.
-use mathlib.Core.Path.{◌≡◌, subst}
+use mathlib.Core.Path.{◌≡◌, subst, sym, ap}
 use mathlib.Core.List.{List, ◌++◌}
 use Prim.Native.Nat.{ℕ, ◌+◌, ◌^◌, ◌≤◌, ◌<◌}
 use native.Mathlib.Omega.{arith}
-use borrow.Author.Tests.{not-true, not-false}
 use lib.ListN.{length}
 use Rattle.laws.proofs.Stored.{room-left, room-right, stored-both, stored_as}
 use Rattle.text.specs.Texts.{decimal}
@@ -33,14 +32,14 @@ split : (s : Start) → line s ≡ first s ++ rest s
 split s = line_split s.args.clause s.args.cause s.args.number
 
 sized : (c : After-width-then-not-writing)
-    → c.width.result + (c.cause_width.result + (c.width-then-not-writing.result + 1)) ≡ length (line (goal.at.After-width-then-not-writing c).Start)
+    → c.width.result + (length c.text-text.result.now + (c.width-then-not-writing.result + 1)) ≡ length (line (goal.at.After-width-then-not-writing c).Start)
 sized c =
     let a = c.args in
     omega (
       arith,
       length-line a.clause a.cause a.number,
       c.width.ensures,
-      c.cause_width.ensures,
+      ap length c.text-text.ensures,
       c.width-then-not-writing.ensures,
     )
 
@@ -49,14 +48,14 @@ low c = c.requires.low
 
 pub returns-then-not-writing : goal.returns-then-not-writing
 returns-then-not-writing c =
-    put-measured c.args.writing (not-true _ c.if-not-writing.true-raw) (omega (arith, sized c))
+    put-measured c.args.writing c.if-not-writing.true (omega (arith, sized c))
 
 -- written: the room for the whole, and for the rest behind the first number
 room : (c : Else-not-writing)
     → c.args.at + length (first (goal.at.Else-not-writing c).Start ++ rest (goal.at.Else-not-writing c).Start) ≤ length c.args.lines.now
 room c =
     subst (λ (xs : List ℕ). c.args.at + length xs ≤ length c.args.lines.now) (split (goal.at.Else-not-writing c).Start)
-    (c.requires.room (not-false c.args.writing c.if-not-writing.false-raw))
+    (c.requires.room c.if-not-writing.false)
 
 rest-room : (c : After-put_number-word)
     → c.put_number-word.result + length (rest (goal.at.After-put_number-word c).Start) ≤ length c.put_number-word.new.text
@@ -66,10 +65,10 @@ rest-room c =
 pub returns : goal.returns
 returns c =
     let rest-stored = stored-both (word (goal.at.returns c).Start) (end (goal.at.returns c).Start) c.put_number-word.new.text c.put_number-word.result
-    (rest-room (goal.at.returns c).After-put_number-word) c.put_cause-last.ensures c.put_field.ensures in
+    (rest-room (goal.at.returns c).After-put_number-word) (stored_as (sym c.text-text.ensures) c.put_bytes-last.ensures) c.put_field.ensures in
     let all-stored = stored-both (first (goal.at.returns c).Start) (rest (goal.at.returns c).Start) c.args.lines.now c.args.at (room (goal.at.returns c).Else-not-writing)
     c.put_number-word.ensures rest-stored in
-    put_written c.args.writing (not-false _ c.if-not-writing.false-raw) (stored_as (split (goal.at.returns c).Start) all-stored)
+    put_written c.args.writing c.if-not-writing.false (stored_as (split (goal.at.returns c).Start) all-stored)
 
 pub overflow_add-result : goal.overflow_add-result
 overflow_add-result c =
@@ -91,11 +90,12 @@ pub put_number-word-requires : goal.put_number-word-requires
 put_number-word-requires c =
     room-left (first (goal.at.put_number-word-requires c).Start) (rest (goal.at.put_number-word-requires c).Start) c.args.lines.now c.args.at (room (goal.at.put_number-word-requires c).Else-not-writing)
 
-pub put_cause-last-requires : goal.put_cause-last-requires
-put_cause-last-requires c =
-    room-left (word (goal.at.put_cause-last-requires c).Start) (end (goal.at.put_cause-last-requires c).Start) c.put_number-word.new.text c.put_number-word.result (rest-room (goal.at.put_cause-last-requires c).After-put_number-word)
+pub put_bytes-last-requires : goal.put_bytes-last-requires
+put_bytes-last-requires c =
+    subst (λ (xs : List ℕ). c.put_number-word.result + length xs ≤ length c.put_number-word.new.text) (sym c.text-text.ensures)
+    (room-left (word (goal.at.put_bytes-last-requires c).Start) (end (goal.at.put_bytes-last-requires c).Start) c.put_number-word.new.text c.put_number-word.result (rest-room (goal.at.put_bytes-last-requires c).After-put_number-word))
 
 pub put_field-requires : goal.put_field-requires
 put_field-requires c =
     room-right (word (goal.at.put_field-requires c).Start) (end (goal.at.put_field-requires c).Start) c.put_number-word.new.text c.put_number-word.result (rest-room (goal.at.put_field-requires c).After-put_number-word)
-    c.put_cause-last.ensures
+    (stored_as (sym c.text-text.ensures) c.put_bytes-last.ensures)

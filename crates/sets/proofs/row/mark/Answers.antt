@@ -1,11 +1,9 @@
 -- `sets::row::mark` meets its contract: each literal is marked, and adds to the signature where it is new. Assumes nothing.
-use mathlib.Core.Path.{◌≡◌, refl, sym, ap, ◌∙◌, subst⁻¹}
-use mathlib.Core.Bool.{true, false, not}
+use mathlib.Core.Path.{◌≡◌, sym, ap, ◌∙◌, subst⁻¹}
+use mathlib.Core.Bool.{true, false}
 use mathlib.Core.List.{List, [], ◌∷◌}
-use mathlib.Core.Logic.{⊎_elim}
-use Prim.Native.Nat.{ℕ, ◌+◌, ◌*◌, ◌-◌, ◌≤◌, ◌<◌}
+use Prim.Native.Nat.{ℕ, ◌+◌, ◌*◌, ◌≤◌, ◌<◌}
 use native.Mathlib.Omega.{arith}
-use borrow.Author.Tests.{not-true, not-false}
 use lib.ListN.{length, length-replicate}
 use Rattle.clausal.specs.Clauses.{Literal}
 use Rattle.clausebytes.specs.Words.{literal_of, most_variables}
@@ -21,7 +19,6 @@ pub loop-i-init : goal.loop-i-init
 loop-i-init c =
     let x = c.args in (
       [],
-      refl,
       subst⁻¹ (λ (row : List ℕ). Marking x.bytes.now x.from x.from row []) c.requires.ready.empty
           (marking_start x.bytes.now x.from),
       sign-none x.seed,
@@ -36,8 +33,8 @@ marked : (c : At-loop-i)
 marked c end =
     let x = c.args in
     let l = c.loop-i in
-    let k = l.invariant.2 in (
-      marking_sign k end x.seed l.sign l.invariant.3,
+    let k = l.invariant.1 in (
+      marking_sign k end x.seed l.sign l.invariant.2,
       marking_row k end ∙ ap (with_bits (codes_of (clause_from x.bytes.now x.from))) (sym c.requires.ready.empty),
     )
 
@@ -47,7 +44,7 @@ returns-then-word-eq0 c =
     marked (goal.at.returns-then-word-eq0 c).At-loop-i (clause-zero bytes c.loop-i.i c.word_at-word.result (omega arith) c.word_at-word.ensures c.if-word-eq0.true)
 
 same_length : (c : At-loop-i) → length c.loop-i.row ≡ length c.args.row.now
-same_length c = c.loop-i.invariant.2.size ∙ sym (ap length c.requires.ready.empty ∙ length-replicate {A = ℕ} row_bytes 0)
+same_length c = c.loop-i.invariant.1.size ∙ sym (ap length c.requires.ready.empty ∙ length-replicate {A = ℕ} row_bytes 0)
 
 small : (c : Else-word-eq0) → (literal_of c.word_at-word.result).variable ≤ most_variables
 small c =
@@ -63,7 +60,7 @@ numbered c =
 
 pub has-requires : goal.has-requires
 has-requires c =
-    omega (arith, (numbered c).1, c.loop-i.invariant.2.size)
+    omega (arith, (numbered c).1, c.loop-i.invariant.1.size)
 
 pub mix-sign-requires : goal.mix-sign-requires
 mix-sign-requires c =
@@ -73,46 +70,45 @@ mix-sign-requires c =
 abbrev literal : (c : After-has) → Literal
 literal c = literal_of c.word_at-word.result
 
-new : (c : After-has) → (m : ℕ) → m ≡ mix_of c.args.seed c.code-n.result → not c.has.result ≡ true
+new : (c : After-has) → (m : ℕ) → m ≡ mix_of c.args.seed c.code-n.result → c.has.result ≡ false
     → c.loop-i.sign + m ≡ sign_of c.args.seed ((literal c) ∷ c.loop-i.invariant.0)
 new c m e taken =
     let l = c.loop-i in
     ap (λ (x : ℕ). l.sign + x) e
-    ∙ signing_new l.invariant.2 c.args.seed l.sign l.invariant.3 (literal c) c.code-n.result c.code-n.ensures
-    c.has.result c.has.ensures (code_inside (literal c) (small (goal.at.After-has c).Else-word-eq0)) (not-true _ taken)
+    ∙ signing_new l.invariant.1 c.args.seed l.sign l.invariant.2 (literal c) c.code-n.result c.code-n.ensures
+    c.has.result c.has.ensures (code_inside (literal c) (small (goal.at.After-has c).Else-word-eq0)) taken
 
-old : (c : After-has) → not c.has.result ≡ false → c.loop-i.sign ≡ sign_of c.args.seed ((literal c) ∷ c.loop-i.invariant.0)
+old : (c : After-has) → c.has.result ≡ true → c.loop-i.sign ≡ sign_of c.args.seed ((literal c) ∷ c.loop-i.invariant.0)
 old c left =
     let l = c.loop-i in
-    signing_old l.invariant.2 c.args.seed l.sign l.invariant.3 (literal c) c.code-n.result c.code-n.ensures
-    c.has.result c.has.ensures (not-false _ left)
+    signing_old l.invariant.1 c.args.seed l.sign l.invariant.2 (literal c) c.code-n.result c.code-n.ensures
+    c.has.result c.has.ensures left
 
 pub overflow_add-sign : goal.overflow_add-sign
 overflow_add-sign c =
     record {
       fits = omega (
         arith,
-        new (goal.at.overflow_add-sign c).After-has c.mix-sign.result c.mix-sign.ensures c.if-not-has.true-raw,
+        new (goal.at.overflow_add-sign c).After-has c.mix-sign.result c.mix-sign.ensures c.if-not-has.true,
         sign_small c.args.seed (literal (goal.at.overflow_add-sign c).After-has ∷ c.loop-i.invariant.0),
       );
     }
 
 pub put-requires : goal.put-requires
 put-requires c =
-    omega (arith, (numbered (goal.at.put-requires c).After-code-n).1, c.loop-i.invariant.2.size)
+    omega (arith, (numbered (goal.at.put-requires c).After-code-n).1, c.loop-i.invariant.1.size)
 
 pub loop-i-preserved : goal.loop-i-preserved
 loop-i-preserved c =
     let x = c.args in
     let k = marking_more x.bytes.now x.from c.loop-i.i c.word_at-word.result c.loop-i.row (omega arith)
-    c.word_at-word.ensures c.if-word-eq0.false c.loop-i.invariant.2 (code_inside (literal (goal.at.loop-i-preserved c).After-has) (small (goal.at.loop-i-preserved c).Else-word-eq0)) in
+    c.word_at-word.ensures c.if-word-eq0.false c.loop-i.invariant.1 (code_inside (literal (goal.at.loop-i-preserved c).After-has) (small (goal.at.loop-i-preserved c).Else-word-eq0)) in
     let row = c.put.ensures ∙ ap (λ (n : ℕ). row_to c.loop-i.row n true) c.code-n.ensures in (
       literal (goal.at.loop-i-preserved c).After-has ∷ c.loop-i.invariant.0,
-      refl,
       subst⁻¹ (λ (r : List ℕ). Marking x.bytes.now x.from (c.loop-i.i + 1) r (literal (goal.at.loop-i-preserved c).After-has ∷ c.loop-i.invariant.0)) row k,
       elim c.if-not-has.branch [
-        | then-not-has w ↦ w.sign-is ∙ new (goal.at.loop-i-preserved c).After-has w.mix-sign.result w.mix-sign.ensures w.if-not-has.true-raw
-        | else-not-has w ↦ w.sign-is ∙ old (goal.at.loop-i-preserved c).After-has w.if-not-has.false-raw
+        | then-not-has w ↦ w.sign-is ∙ new (goal.at.loop-i-preserved c).After-has w.mix-sign.result w.mix-sign.ensures w.if-not-has.true
+        | else-not-has w ↦ w.sign-is ∙ old (goal.at.loop-i-preserved c).After-has w.if-not-has.false
       ],
     )
 

@@ -1,7 +1,7 @@
 -- `sets::row::some_is` meets its contract: the first literal that is as asked for decides. Assumes nothing.
 use mathlib.Core.Path.{◌≡◌, refl, sym, ap, ◌∙◌}
 use mathlib.Core.List.{◌∷◌}
-use Prim.Native.Nat.{◌+◌, ◌-◌, ◌≤◌}
+use Prim.Native.Nat.{◌+◌, ◌≤◌}
 use native.Mathlib.Omega.{arith}
 use Rattle.clausebytes.specs.Words.{literal_of, most_variables}
 use Rattle.sets.specs.Inner.Sets.{clause_from, some_is}
@@ -16,7 +16,7 @@ unfolding some_is
 returns-then-word-eq0 c =
     let x = c.args in
     let none = clause-zero x.bytes.now c.loop-i.i c.word_at-word.result (omega arith) c.word_at-word.ensures c.if-word-eq0.true in
-    sym (ap (some_is x.row.now x.turned) none) ∙ c.loop-i.invariant.1
+    sym (ap (some_is x.row.now x.turned) none) ∙ c.loop-i.invariant
 
 -- at a literal: it has a number, its bit is in the row, and it decides or the rest does
 small : (c : Else-word-eq0) → (literal_of c.word_at-word.result).variable ≤ most_variables
@@ -38,25 +38,23 @@ pub returns-then-has-turned : goal.returns-then-has-turned
 returns-then-has-turned c =
     let x = c.args in
     sym (some-here x.row.now x.turned _ _ _ (left (goal.at.returns-then-has-turned c).Else-word-eq0) _ c.code.ensures _ c.has.ensures c.if-has-turned.true)
-    ∙ c.loop-i.invariant.1
+    ∙ c.loop-i.invariant
 
 pub loop-i-preserved : goal.loop-i-preserved
 loop-i-preserved c =
-    let x = c.args in (
-      refl,
-      sym (some_next x.row.now x.turned _ _ _ (left (goal.at.loop-i-preserved c).Else-word-eq0) _ c.code.ensures _ c.has.ensures c.if-has-turned.false)
-          ∙ c.loop-i.invariant.1,
-    )
+    let x = c.args in
+    sym (some_next x.row.now x.turned _ _ _ (left (goal.at.loop-i-preserved c).Else-word-eq0) _ c.code.ensures _ c.has.ensures c.if-has-turned.false)
+    ∙ c.loop-i.invariant
 
 pub returns : goal.returns
 unfolding some_is
 returns c =
     let x = c.args in
-    sym (ap (some_is x.row.now x.turned) (clause-end x.bytes.now c.loop-i.i c.loop-i-test.false)) ∙ c.loop-i.invariant.1
+    sym (ap (some_is x.row.now x.turned) (clause-end x.bytes.now c.loop-i.i c.loop-i-test.false)) ∙ c.loop-i.invariant
 
 pub loop-i-init : goal.loop-i-init
 loop-i-init c =
-    (refl, refl)
+    refl
 
 pub code-requires : goal.code-requires
 code-requires c =

@@ -1,6 +1,6 @@
 -- `sets::row::wipe` meets its contract: the byte of each literal is zero afterwards. Assumes nothing.
 use mathlib.Core.Path.{refl, sym, ap, ◌∙◌}
-use Prim.Native.Nat.{ℕ, ◌+◌, ◌-◌, ◌/◌, ◌≤◌}
+use Prim.Native.Nat.{ℕ, ◌+◌, ◌/◌, ◌≤◌}
 use native.Mathlib.Omega.{arith}
 use lib.ListN.{set, length-set}
 use Rattle.clausal.specs.Clauses.{Clause}
@@ -17,7 +17,7 @@ returns-then-word-eq0 c =
     let l = c.loop-i in
     let bytes = c.args.bytes.now in
     let none = clause-zero bytes l.i c.word_at-word.result (omega arith) c.word_at-word.ensures c.if-word-eq0.true in
-    sym (ap (λ (x : Clause). wiped (codes_of x) l.row) none) ∙ l.invariant.2
+    sym (ap (λ (x : Clause). wiped (codes_of x) l.row) none) ∙ l.invariant.1
 
 small : (c : Else-word-eq0) → (literal_of c.word_at-word.result).variable ≤ most_variables
 small c =
@@ -25,7 +25,7 @@ small c =
 
 pub bounds-row-at : goal.bounds-row-at
 bounds-row-at c =
-    omega (arith, c.code-at.ensures, c.loop-i.invariant.1, code_inside (literal_of c.word_at-word.result) (small (goal.at.bounds-row-at c).Else-word-eq0))
+    omega (arith, c.code-at.ensures, c.loop-i.invariant.0, code_inside (literal_of c.word_at-word.result) (small (goal.at.bounds-row-at c).Else-word-eq0))
 
 pub loop-i-preserved : goal.loop-i-preserved
 unfolding wiped
@@ -34,11 +34,10 @@ loop-i-preserved c =
     let bytes = c.args.bytes.now in
     let more = clause-more bytes l.i c.word_at-word.result (omega arith) c.word_at-word.ensures c.if-word-eq0.false in
     let rest = codes_of (clause_from bytes (l.i + 1)) in (
-      refl,
-      length-set l.row (c.code-at.result / 8) 0 ∙ l.invariant.1,
+      length-set l.row (c.code-at.result / 8) 0 ∙ l.invariant.0,
       ap (λ (n : ℕ). wiped rest (set l.row (n / 8) 0)) c.code-at.ensures
           ∙ sym (ap (λ (x : Clause). wiped (codes_of x) l.row) more)
-          ∙ l.invariant.2,
+          ∙ l.invariant.1,
     )
 
 pub returns : goal.returns
@@ -46,15 +45,15 @@ unfolding wiped
 returns c =
     let l = c.loop-i in
     let bytes = c.args.bytes.now in
-    sym (ap (λ (x : Clause). wiped (codes_of x) l.row) (clause-end bytes l.i c.loop-i-test.false)) ∙ l.invariant.2
+    sym (ap (λ (x : Clause). wiped (codes_of x) l.row) (clause-end bytes l.i c.loop-i-test.false)) ∙ l.invariant.1
 
 pub loop-i-init : goal.loop-i-init
 loop-i-init c =
-    (refl, c.requires.size, refl)
+    (c.requires.size, refl)
 
 pub shape_of-row-then-word-eq0 : goal.shape_of-row-then-word-eq0
 shape_of-row-then-word-eq0 c =
-    c.loop-i.invariant.1 ∙ sym c.requires.size
+    c.loop-i.invariant.0 ∙ sym c.requires.size
 
 pub code-at-requires : goal.code-at-requires
 code-at-requires c =
@@ -62,4 +61,4 @@ code-at-requires c =
 
 pub shape_of-row : goal.shape_of-row
 shape_of-row c =
-    c.loop-i.invariant.1 ∙ sym c.requires.size
+    c.loop-i.invariant.0 ∙ sym c.requires.size

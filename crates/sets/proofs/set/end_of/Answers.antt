@@ -1,6 +1,5 @@
 -- `sets::set::end_of` meets its contract: the words before a zero are passed one by one. Assumes nothing.
 use mathlib.Core.Path.{refl, ap, ◌∙◌}
-use Prim.Native.Nat.{◌-◌}
 use native.Mathlib.Omega.{arith}
 use lib.ListN.{length}
 use Rattle.sets.proofs.Laws.Walks.{clause-zero, clause-more, clause-end}
@@ -17,7 +16,7 @@ pub loop-i-preserved : goal.loop-i-preserved
 loop-i-preserved c =
     let l = c.loop-i in
     let more = clause-more (c.args.bytes.now) l.i c.word_at.result (omega arith) c.word_at.ensures c.if-word_at-eq0.false in
-    (refl, omega (arith, ap length more) ∙ l.invariant.1)
+    (omega arith, omega (arith, ap length more) ∙ l.invariant.1)
 
 pub returns : goal.returns
 returns c =
@@ -26,4 +25,4 @@ returns c =
 
 pub loop-i-init : goal.loop-i-init
 loop-i-init c =
-    (refl, refl)
+    (omega arith, refl)

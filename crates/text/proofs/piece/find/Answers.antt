@@ -1,6 +1,4 @@
 -- `text::piece::find` meets its contract: from every place before it the mark is the same. Assumes nothing.
-use mathlib.Core.Path.{refl}
-use Prim.Native.Nat.{◌-◌}
 use native.Mathlib.Omega.{arith}
 use Rattle.text.proofs.Laws.Pieces.{spot-here, spot-next, spot-end}
 use Rattle.text.proofs.piece.find.Goals as goal
@@ -10,22 +8,18 @@ returns-then-text-i c =
     let l = c.loop-i in
     let x = c.args in
     let e = spot-here x.mark x.text.now l.i c.loop-i-test.true c.if-text-i.true in
-    record { place = omega (arith, l.invariant.2, e); behind = omega arith; within = omega arith }
+    record { place = omega (arith, l.invariant, e); behind = omega arith; within = omega arith }
 
 pub loop-i-preserved : goal.loop-i-preserved
 loop-i-preserved c =
     let l = c.loop-i in
     let x = c.args in
     let e = spot-next x.mark x.text.now l.i c.loop-i-test.true c.if-text-i.false in
-    (omega arith, omega arith, omega (arith, l.invariant.2, e))
+    omega (arith, l.invariant, e)
 
 pub returns : goal.returns
 returns c =
     let l = c.loop-i in
     let x = c.args in
     let e = spot-end x.mark x.text.now l.i c.loop-i-test.false in
-    record { place = omega (arith, l.invariant.2, e); behind = omega arith; within = omega arith }
-
-pub loop-i-init : goal.loop-i-init
-loop-i-init c =
-    (omega arith, omega arith, refl)
+    record { place = omega (arith, l.invariant, e); behind = omega arith; within = omega arith }

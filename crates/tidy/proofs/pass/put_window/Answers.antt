@@ -1,7 +1,7 @@
 -- `tidy::pass::put_window` meets its contract: clause after clause is put, each at its place and by its first clause.
 -- Assumes nothing.
 use mathlib.Core.Path.{refl, ap, ◌∙◌}
-use Prim.Native.Nat.{◌+◌, ◌-◌, ◌<◌}
+use Prim.Native.Nat.{◌+◌, ◌<◌}
 use native.Mathlib.Omega.{arith}
 use lib.ListN.{length}
 use Rattle.clausebytes.specs.Words.{most_clauses}
@@ -48,25 +48,9 @@ pub loop-i-init : goal.loop-i-init
 loop-i-init c =
     (passing_start c.requires, refl)
 
-pub offset_bounds-firsts-i : goal.offset_bounds-firsts-i
-offset_bounds-firsts-i c =
-    record { fits = omega (arith, few c) }
-
 pub bounds-firsts-i : goal.bounds-firsts-i
 bounds-firsts-i c =
     omega (arith, c.loop-i-test.true, c.requires.firsts_size)
-
-pub overflow_add-number : goal.overflow_add-number
-overflow_add-number c =
-    record { fits = omega (arith, few (goal.at.overflow_add-number c).In-loop-i, c.loop-i.invariant.0.number_is) }
-
-pub overflow_add-i : goal.overflow_add-i
-overflow_add-i c =
-    record { fits = omega (arith, few (goal.at.overflow_add-i c).In-loop-i) }
-
-pub loop-i-smaller : goal.loop-i-smaller
-loop-i-smaller c =
-    omega (arith, c.loop-i-test.true)
 
 pub shape_of-out : goal.shape_of-out
 shape_of-out c =

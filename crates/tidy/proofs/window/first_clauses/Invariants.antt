@@ -1,12 +1,9 @@
 -- `tidy::window::first_clauses` meets its contract: a search that is not given up finds the first clauses, and the
 -- last one is not given up. Assumes nothing.
 use mathlib.Core.Path.{◌≡◌}
-use Prim.Native.Nat.{◌-◌, ◌<◌}
+use Prim.Native.Nat.{◌<◌}
 use Rattle.sets.specs.Inner.Sets.{seeds}
 use Rattle.tidy.proofs.window.first_clauses.Given as goal
 
 abbrev pub invariant-loop-seed : goal.invariant-loop-seed
 invariant-loop-seed l = (l.seed < seeds) × (l.row ≡ l.initial.row)
-
-abbrev pub decreases-loop-seed : goal.decreases-loop-seed
-decreases-loop-seed l = 15 - l.seed

@@ -1,7 +1,6 @@
 -- `tidy::window::search` meets its contract: every clause up to the end of the window is looked for. Assumes nothing.
-use mathlib.Core.Path.{◌≡◌, refl, sym, ap, ◌∙◌}
-use mathlib.Core.Bool.{true, false, false≢true}
-use Prim.Native.Nat.{ℕ, ◌+◌, ◌*◌, ◌-◌, ◌≤◌, ◌<◌}
+use mathlib.Core.Path.{◌≡◌, refl, ap, ◌∙◌}
+use Prim.Native.Nat.{ℕ, ◌+◌, ◌*◌, ◌≤◌, ◌<◌}
 use native.Mathlib.Omega.{arith}
 use lib.ListN.{length}
 use Rattle.tidy.specs.Inner.Windows.{most, none, place_after}
@@ -66,24 +65,21 @@ missed c = omega (arith, c.loop-j.invariant.2, c.scan-misses.ensures.2)
 -- it is given up
 pub returns-then-misses-limit : goal.returns-then-misses-limit
 returns-then-misses-limit c = (
-  record {
-    unlimited = λ h. absurd (omega (arith, missed (goal.at.returns-then-misses-limit c).After-scan-misses, few (goal.at.returns-then-misses-limit c).In-loop-j, c.if-misses-limit.true));
-    firsts_are = λ e. absurd (false≢true e);
-  },
+  omega (arith, missed (goal.at.returns-then-misses-limit c).After-scan-misses, few (goal.at.returns-then-misses-limit c).In-loop-j, c.if-misses-limit.true),
   c.scan-misses.ensures.1 ∙ c.sign-sign.ensures.1 ∙ row_is (goal.at.returns-then-misses-limit c).At-loop-j,
 )
 
 -- clause j was looked for
 next : (c : After-end_of-at)
     → let x = c.args in
-    Searching x.bytes.now x.start x.count c.note.new.signs c.scan-misses.new.firsts
+    Searching x.bytes.now x.start x.count c.note.new.self.signs c.scan-misses.new.firsts
     c.scan-misses.new.slots (c.end_of-at.result + 1) (c.loop-j.j + 1)
 next c =
     let x = c.args in
     let p = c.requires in
     let note = c.note.ensures.0 in
     let seen = c.scan-misses.ensures.0 in
-    searching_next c.note.new.places c.loop-j.invariant.0 p.closed p.within p.clauses
+    searching_next c.note.new.self.places c.loop-j.invariant.0 p.closed p.within p.clauses
     (λ i h. note.places_are i h ∙ ap (λ (q : ℕ). place_after x.bytes.now q i) p.place_is ∙ after-after x.bytes.now 0 x.start i)
     (below (goal.at.After-end_of-at c).In-loop-j) _ seen.firsts_size seen.firsts_are _ seen.slotted c.end_of-at.result c.end_of-at.ensures
 
@@ -93,7 +89,7 @@ loop-j-preserved c =
 
 pub returns : goal.returns
 returns c =
-    (record { unlimited = λ h. refl; firsts_are = λ e. searching_end c.loop-j.invariant.0 c.loop-j-test.false }, row_is (goal.at.returns c).At-loop-j)
+    (searching_end c.loop-j.invariant.0 c.loop-j-test.false, row_is (goal.at.returns c).At-loop-j)
 
 pub overflow_cast-end : goal.overflow_cast-end
 overflow_cast-end c =
@@ -102,22 +98,6 @@ overflow_cast-end c =
 pub overflow_add-end : goal.overflow_add-end
 overflow_add-end c =
     let p = c.requires in record { fits = omega (arith, p.within, p.clauses) }
-
-pub slice_bounds-note-end : goal.slice_bounds-note-end
-slice_bounds-note-end c =
-    refl
-
-pub slice_bounds-scan-end : goal.slice_bounds-scan-end
-slice_bounds-scan-end c =
-    sym c.note.ensures.0.signed.places_size
-
-pub slice_bounds-scan-end-in-loop-j : goal.slice_bounds-scan-end-in-loop-j
-slice_bounds-scan-end-in-loop-j c =
-    sym c.note.ensures.0.signed.signs_size
-
-pub slice_bounds-scan-end-in-loop-j-2 : goal.slice_bounds-scan-end-in-loop-j-2
-slice_bounds-scan-end-in-loop-j-2 c =
-    sym c.loop-j.invariant.0.slotted.size
 
 pub overflow_add-misses : goal.overflow_add-misses
 overflow_add-misses c =
@@ -138,14 +118,6 @@ overflow_add-at c =
         c.requires.long,
       );
     }
-
-pub overflow_add-j : goal.overflow_add-j
-overflow_add-j c =
-    record { fits = omega (arith, few (goal.at.overflow_add-j c).In-loop-j) }
-
-pub loop-j-smaller : goal.loop-j-smaller
-loop-j-smaller c =
-    omega (arith, below (goal.at.loop-j-smaller c).In-loop-j)
 
 pub shape_of-row : goal.shape_of-row
 shape_of-row c =

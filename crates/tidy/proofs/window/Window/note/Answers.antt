@@ -1,20 +1,20 @@
--- `tidy::window::note` meets its contract: place, signature and slot of each clause are stored. Assumes nothing.
+-- `tidy::window::Window::note` meets its contract: place, signature and slot of each clause are stored. Assumes nothing.
 use mathlib.Core.Path.{refl, sym, ap, ◌∙◌}
 use mathlib.Core.Bool.{true}
-use Prim.Native.Nat.{ℕ, ◌+◌, ◌-◌, ◌<◌}
+use Prim.Native.Nat.{ℕ, ◌+◌, ◌<◌}
 use native.Mathlib.Omega.{arith}
 use lib.ListN.{length, set, length-replicate}
 use Rattle.tidy.specs.Inner.Windows.{slot_bytes}
 use Rattle.bits.specs.Inner.Rows.{row_to}
 use Rattle.tidy.proofs.Laws.Noting.{Noting, noting_start, noting_next, noting_end, slot-inside}
-use Rattle.tidy.proofs.window.note.Goals.{After-end_of-at, In-loop-i}
-use Rattle.tidy.proofs.window.note.Goals as goal
+use Rattle.tidy.proofs.window.Window.note.Goals.{After-end_of-at, In-loop-i}
+use Rattle.tidy.proofs.window.Window.note.Goals as goal
 
 pub loop-i-init : goal.loop-i-init
 loop-i-init c =
     let x = c.args in
     let p = c.requires in (
-      noting_start x.bytes.now x.place x.count x.seed x.places.now x.signs.now x.slots.now
+      noting_start x.bytes.now x.place x.count x.seed x.self.now.places x.self.now.signs x.slots.now
           p.start p.places_size p.signs_size p.slots_empty,
       refl,
     )
@@ -35,8 +35,8 @@ put-requires c =
 -- one clause more
 more : (c : After-end_of-at)
     → let x = c.args in
-    Noting x.bytes.now x.place x.count x.seed (set c.loop-i.places c.loop-i.i c.loop-i.at)
-    (set c.loop-i.signs c.loop-i.i c.sign-sign.result) c.put.new.row (c.end_of-at.result + 1) (c.loop-i.i + 1)
+    Noting x.bytes.now x.place x.count x.seed (set c.loop-i.self.places c.loop-i.i c.loop-i.at)
+    (set c.loop-i.self.signs c.loop-i.i c.sign-sign.result) c.put.new.row (c.end_of-at.result + 1) (c.loop-i.i + 1)
 more c =
     let row = c.put.ensures ∙ ap (λ (n : ℕ). row_to c.loop-i.slots n true) c.slot.ensures in
     noting_next c.loop-i.invariant.0 c.requires.few c.loop-i-test.true c.sign-sign.result c.sign-sign.ensures.0
@@ -53,22 +53,6 @@ pub returns : goal.returns
 returns c =
     let p = c.requires in
     (noting_end c.loop-i.invariant.0 c.loop-i-test.false p.few p.seed_few, c.loop-i.invariant.1)
-
-pub offset_bounds-places-i : goal.offset_bounds-places-i
-offset_bounds-places-i c =
-    record { fits = omega (arith, below (goal.at.offset_bounds-places-i c).In-loop-i) }
-
-pub bounds-places-i : goal.bounds-places-i
-bounds-places-i c =
-    below (goal.at.bounds-places-i c).In-loop-i
-
-pub offset_bounds-signs-i : goal.offset_bounds-signs-i
-offset_bounds-signs-i c =
-    record { fits = omega (arith, below (goal.at.offset_bounds-signs-i c).In-loop-i) }
-
-pub bounds-signs-i : goal.bounds-signs-i
-bounds-signs-i c =
-    below (goal.at.bounds-signs-i c).In-loop-i
 
 pub shape_of-slots : goal.shape_of-slots
 shape_of-slots c =
