@@ -7,68 +7,68 @@ ghost use Rattle.capped.specs.Inner.Sized.{sized};
 ghost use Rattle.clausal.specs.Calls.{ceilings, taken_checked, converted_under, converted, converted_after};
 ghost use Rattle.convert.specs.Inner.Fitted.{fitted, written_under, output_bytes, Convertible, Measured, Fitting};
 
-use answer::{Answer, is_refusal};
+use answer::{Accepted, Answer, Refusal};
 use capped::total::{ClauseTotal, LiteralTotal, Total};
 use formula::node::{MOST_NODES, MOST_OPTIONS};
+use marks::mark::Marks;
 use parts::helper::name_all;
 use parts::part::write_all;
 use totals::prepare::prepare;
+use totals::rows::Columns;
+use walk::nodes::Nodes;
 
 // Whether totals are below their ceilings.
 pub fn below(sum: Total) -> Answer
     ensures { result ≡ ceilings (sized sum) }
 {
-    let clauses = sum.clauses;
-    let literals = sum.literals;
-    if clauses.n >= ClauseTotal::CEILING {
-        return Answer::Clauses;
+    if sum.clauses.n >= ClauseTotal::CEILING {
+        return Err(Refusal::Clauses);
     }
-    if literals.n >= LiteralTotal::CEILING {
-        return Answer::Literals;
+    if sum.literals.n >= LiteralTotal::CEILING {
+        return Err(Refusal::Literals);
     }
-    Answer::Accepted {
+    Ok(Accepted {
         first: 0,
         second: 0,
-    }
+    })
 }
 
 // Whether totals are below their ceilings, and a buffer has room for the output.
 fn fit(sum: Total, room: usize) -> Answer
     ensures { result ≡ fitted (sized sum) room }
 {
-    let high = below(sum);
-    let clauses = sum.clauses;
-    let literals = sum.literals;
-    let bytes = 4 * (clauses.n as usize + literals.n as usize);
-    if is_refusal(high) {
-        return high;
-    }
+    below(sum)?;
+    let bytes = 4 * (usize::from(sum.clauses.n) + sum.literals.n as usize);
     if room < bytes {
-        return Answer::Room;
+        return Err(Refusal::Room);
     }
-    Answer::Accepted {
+    Ok(Accepted {
         first: 0,
         second: 0,
-    }
+    })
 }
 
 // Writes the output into a buffer in which it fits, and returns the last variable.
 fn write_output(
     table: &[u8],
     taken: u32,
-    marks: &[u8; 1024],
+    marks: &Marks,
     set: &[u8],
-    clauses: &[[u16; 1024]; 2],
-    literals: &[[u32; 1024]; 2],
+    columns: &Columns,
     out: &mut [u8],
 ) -> u32
-    requires { Fitting table.now taken marks.now set.now clauses.now literals.now out.old }
+    requires { Fitting table.now taken marks.now set.now columns.now out.old }
     ensures { (result ≡ variables_of (renaming taken set.now) (length set.now)) ×
         (out.new ≡ splice out.old 0 (output_bytes table.now taken set.now)) }
 {
     let mut helpers = [0u32; MOST_NODES];
     let last = name_all(taken, set, &mut helpers);
-    write_all(&table, marks, clauses, literals, &helpers, out);
+    let nodes = Nodes {
+        table,
+        columns,
+        helpers: &helpers,
+    };
+    write_all(&nodes, marks, out);
     last
 }
 
@@ -76,27 +76,22 @@ fn write_output(
 fn write_under(
     table: &[u8],
     taken: u32,
-    marks: &[u8; 1024],
+    marks: &Marks,
     set: &[u8],
-    clauses: &[[u16; 1024]; 2],
-    literals: &[[u32; 1024]; 2],
+    columns: &Columns,
     sum: Total,
     out: &mut [u8],
 ) -> Answer
-    requires { Measured table.now taken marks.now set.now clauses.now literals.now (sized sum) }
+    requires { Measured table.now taken marks.now set.now columns.now (sized sum) }
     ensures { record { answer = result; output = out.new } ≡ written_under (renaming taken set.now)
         (nodes_of table.now) out.old }
 {
-    let fits = fit(sum, out.len());
-    if is_refusal(fits) {
-        return fits;
-    }
-    let last = write_output(table, taken, marks, set, clauses, literals, out);
-    let total = sum.clauses;
-    Answer::Accepted {
+    fit(sum, out.len())?;
+    let last = write_output(table, taken, marks, set, columns, out);
+    Ok(Accepted {
         first: last,
-        second: total.n as u32,
-    }
+        second: u32::from(sum.clauses.n),
+    })
 }
 
 // Checks a set for a table that is right, and converts, with helpers after what is taken.
@@ -106,31 +101,22 @@ fn convert_under(table: &[u8], taken: u32, set: &[u8], out: &mut [u8]) -> Answer
         (nodes_of table.now) out.old }
 {
     let mut marks = [0u8; MOST_NODES];
-    let mut clauses = [[0u16; MOST_NODES]; 2];
-    let mut literals = [[0u32; MOST_NODES]; 2];
-    let prepared = prepare(table, set, &mut marks, &mut clauses, &mut literals);
-    let right = prepared.right;
-    if is_refusal(right) {
-        return right;
-    }
-    let sum = prepared.sum;
-    write_under(table, taken, &marks, set, &clauses, &literals, sum, out)
+    let mut columns = Columns::blank();
+    let sum = prepare(table, set, &mut marks, &mut columns)?;
+    write_under(table, taken, &marks, set, &columns, sum, out)
 }
 
 // Whether what is taken has all options, and no more than a project may have.
 fn check_taken(options: u32, taken: u32) -> Answer
     ensures { result ≡ taken_checked options taken }
 {
-    if taken < options {
-        return Answer::Options;
+    if taken < options || taken > MOST_OPTIONS {
+        return Err(Refusal::Options);
     }
-    if taken > MOST_OPTIONS {
-        return Answer::Options;
-    }
-    Answer::Accepted {
+    Ok(Accepted {
         first: 0,
         second: 0,
-    }
+    })
 }
 
 // Checks a table and a set, and writes the clauses of the formula under the set: variables and clauses are reported.
@@ -138,10 +124,7 @@ pub fn convert(table: &[u8], options: u32, set: &[u8], out: &mut [u8]) -> Answer
     ensures { record { answer = result; output = out.new } ≡ converted table.now options set.now
         out.old }
 {
-    let checked = formula::table::check(table, options);
-    if is_refusal(checked) {
-        return checked;
-    }
+    formula::table::check(table, options)?;
     convert_under(table, options, set, out)
 }
 
@@ -150,13 +133,7 @@ pub fn convert_after(table: &[u8], options: u32, taken: u32, set: &[u8], out: &m
     ensures { record { answer = result; output = out.new } ≡ converted_after table.now options taken set.now
         out.old }
 {
-    let checked = formula::table::check(table, options);
-    if is_refusal(checked) {
-        return checked;
-    }
-    let right = check_taken(options, taken);
-    if is_refusal(right) {
-        return right;
-    }
+    formula::table::check(table, options)?;
+    check_taken(options, taken)?;
     convert_under(table, taken, set, out)
 }

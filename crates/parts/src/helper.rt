@@ -4,9 +4,10 @@ ghost use Rattle.clausal.specs.Clauses.{renaming, variables_of};
 ghost use Rattle.parts.specs.Inner.Helpers.{helpers_of, Unnamed};
 
 use marks::set::is_renamed;
+use walk::nodes::Helpers;
 
 // Gives each renamed node its helper, from `taken` + 1 on, and returns the last variable.
-pub fn name_all(taken: u32, set: &[u8], helpers: &mut [u32; 1024]) -> u32
+pub fn name_all(taken: u32, set: &[u8], helpers: &mut Helpers) -> u32
     requires { Unnamed taken set.now helpers.old }
     ensures { (result ≡ variables_of (renaming taken set.now) (length set.now)) ×
         (helpers.new ≡ helpers_of (renaming taken set.now) (length set.now)) }

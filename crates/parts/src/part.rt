@@ -12,7 +12,7 @@ ghost use Rattle.walk.specs.Inner.Written.{Fits, Put};
 use answer::put;
 use clausebytes::word::word;
 use formula::node::NODE_BYTES;
-use marks::mark::{halves_of, read};
+use marks::mark::{Marks, halves_of, read};
 use walk::clause::write_own;
 use walk::count::own_count;
 use walk::nodes::Nodes;
@@ -70,7 +70,7 @@ fn write_part(
 // Writes the definition of a node, where it is renamed: the half down, then the half up.
 fn write_definition(
     nodes: &Nodes,
-    marks: &[u8; 1024],
+    marks: &Marks,
     out: &mut &mut [u8],
     at: usize,
     node: usize,
@@ -88,7 +88,7 @@ fn write_definition(
 }
 
 // Writes the definitions by rising node number, and returns the next place.
-fn write_definitions(nodes: &Nodes, marks: &[u8; 1024], out: &mut &mut [u8], at: usize) -> usize
+fn write_definitions(nodes: &Nodes, marks: &Marks, out: &mut &mut [u8], at: usize) -> usize
     requires { DefinitionsDue nodes.now marks.now out.old.now at }
     ensures { Put (clauses_bytes
         (defined_to (names_in nodes.now.helpers.now) (nodes_of nodes.now.table.now) (length (nodes_of nodes.now.table.now))))
@@ -102,7 +102,7 @@ fn write_definitions(nodes: &Nodes, marks: &[u8; 1024], out: &mut &mut [u8], at:
 }
 
 // Writes the whole output from the buffer's start on: the root part, then the definitions.
-fn write_parts(nodes: &Nodes, marks: &[u8; 1024], out: &mut &mut [u8]) -> usize
+fn write_parts(nodes: &Nodes, marks: &Marks, out: &mut &mut [u8]) -> usize
     requires { OutputDue nodes.now marks.now out.old.now }
     ensures { Put (clauses_bytes (all_parts (names_in nodes.now.helpers.now) (nodes_of nodes.now.table.now)))
         out.old 0 result out.new }
@@ -113,7 +113,7 @@ fn write_parts(nodes: &Nodes, marks: &[u8; 1024], out: &mut &mut [u8]) -> usize
 }
 
 // The same for a buffer that is lent, which is given back.
-pub fn write_all<'a>(nodes: &Nodes, marks: &[u8; 1024], out: &'a mut [u8]) -> &'a mut [u8]
+pub fn write_all<'a>(nodes: &Nodes, marks: &Marks, out: &'a mut [u8]) -> &'a mut [u8]
     requires { OutputDue nodes.now marks.now out.old }
     ensures { result ≡ at_last out.entry
         (splice out.old 0 (clauses_bytes (all_parts (names_in nodes.now.helpers.now) (nodes_of nodes.now.table.now)))) }

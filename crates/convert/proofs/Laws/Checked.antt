@@ -1,26 +1,29 @@
 -- What a check of a table, and of what is taken, has settled for a conversion.
 -- Assumes nothing.
-use mathlib.Core.Path.{◌≡◌, refl, ap, ◌∙◌}
+use mathlib.Core.Path.{◌≡◌, refl, ap}
 use mathlib.Core.Bool.{Bool, true, false, cond, ◌||◌}
 use mathlib.Core.List.{List}
 use Prim.Native.Nat.{ℕ, ◌≤◌}
 use native.Mathlib.Omega.{arith}
 use lib.Dec.{ltb}
-use borrow.Author.Tests.{ltb-false, le-ltb}
+use borrow.Author.Tests.{ltb-false}
 use Rattle.laws.proofs.Choices.{neither}
-use Rattle.answer.specs.Answers.{refuses, afterwards}
-use Rattle.answer.specs.declared.Answer.TheVariants.{Accepted, Options}
+use Rattle.answer.specs.Answers.{refuses}
+use Rattle.answer.specs.Answers.{accepted_with}
+use Rattle.std.specs.Prelude.{Err}
+use Rattle.answer.specs.declared.Refusal.TheVariants.{Options}
 use Rattle.formula.specs.Checks.{checked}
 use Rattle.formula.specs.Inner.Right.{Right}
-use Rattle.formula.specs.Tables.{most_options, nodes_of}
+use Rattle.formula.specs.Tables.{most_options}
 use Rattle.formula.proofs.Laws.WellFormed.{accepts, checked-accepted, length-right, accepted_well_formed}
-use Rattle.clausal.specs.Calls.{taken_checked, converted, converted_after}
-use Rattle.marks.specs.Sets.{set_checked}
-use Rattle.marks.proofs.Laws.Sets.{set-accepted}
+use Rattle.clausal.specs.Calls.{taken_checked}
 use Rattle.capped.specs.Inner.Sized.{sized}
 use Rattle.totals.specs.Inner.Prepared.{Prepares}
-use Rattle.totals.specs.declared.prepare.Prepared.{Prepared}
-use Rattle.totals.proofs.Laws.Prepared.{sum_is}
+use Rattle.totals.specs.declared.rows.Columns.{Columns}
+use Rattle.totals.proofs.Laws.Prepared.{prepared-right, sum_is, ready_is}
+use Rattle.answer.specs.declared.Refusal.{Refusal}
+use Rattle.capped.specs.declared.total.Total.{Total}
+use Rattle.std.specs.Prelude.{Result, Ok}
 use Rattle.convert.specs.Inner.Fitted.{Convertible, Measured}
 
 module _ (t : List ℕ) (v : ℕ) (ok : refuses (checked t v) ≡ false) where
@@ -38,14 +41,18 @@ module _ (t : List ℕ) (v : ℕ) (ok : refuses (checked t v) ≡ false) where
   few-options = right.options
 
 -- what was prepared for a right set
-pub measured_of : {t s : List ℕ} {taken : ℕ} {p : Prepared} {marks : List ℕ} {cs ls : List (List ℕ)} → Convertible t taken
-    → Prepares t s p marks cs ls → refuses (set_checked (nodes_of t) s) ≡ false → Measured t taken marks s cs ls (sized p.sum)
-measured_of {t} {s} {taken} {p} {marks} {cs} {ls} c a ok = record {
+pub measured_of : {t s : List ℕ} {taken : ℕ} {p : Result Total Refusal} {marks : List ℕ} {columns : Columns} {sum : Total} → Convertible t taken
+    → Prepares t s p marks columns.clauses columns.literals → p ≡ Ok sum → Measured t taken marks s columns (sized sum)
+measured_of {t} {s} {taken} {p} {marks} {columns} {sum} c a e = record {
   prepared = record {
-    settled = record { convertible = c; marked = a.marked; set = set-accepted (nodes_of t) s ok };
-    ready = a.ready ok;
+    settled = record {
+      convertible = c;
+      marked = a.marked;
+      set = prepared-right t s p marks columns.clauses columns.literals a sum e;
+    };
+    ready = ready_is t s p marks columns.clauses columns.literals a sum e;
   };
-  whole = ap sized (sum_is t s p marks cs ls a ok);
+  whole = ap sized (sum_is t s p marks columns.clauses columns.literals a sum e);
 }
 
 -- what is taken
@@ -58,7 +65,7 @@ taken-right v taken e = go (ltb taken v || ltb most_options taken) refl
   where
     go : (b : Bool) → (ltb taken v || ltb most_options taken) ≡ b → Taken v taken
     go true f =
-        let g = ap (λ (b : Bool). refuses (cond b Options (Accepted 0 0))) f in
+        let g = ap (λ (b : Bool). refuses (cond b (Err Options) (accepted_with 0 0))) f in
         let z : ◌≡◌ {A = ℕ} 0 1 = cc in
         absurd (omega arith)
     go false f =

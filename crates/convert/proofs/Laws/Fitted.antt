@@ -10,9 +10,11 @@ use lib.ListN.{length, length-append}
 use borrow.Author.Tests.{ltb-true, ltb-false, lt-ltb, le-ltb}
 use Rattle.laws.specs.Lists.{splice}
 use Rattle.laws.specs.Numbers.{cap}
-use Rattle.answer.specs.Answers.{refuses, Wrote, afterwards, stored}
-use Rattle.answer.specs.declared.Answer.{Answer}
-use Rattle.answer.specs.declared.Answer.TheVariants.{Accepted, Clauses, Literals, Room}
+use Rattle.answer.specs.Answers.{refuses, afterwards, stored}
+use Rattle.answer.specs.Answers.{Answer}
+use Rattle.answer.specs.Answers.{accepted_with}
+use Rattle.std.specs.Prelude.{Err}
+use Rattle.answer.specs.declared.Refusal.TheVariants.{Clauses, Literals, Room}
 use Rattle.clausal.specs.Clauses.{Clause, clause_bytes, clauses_bytes}
 use Rattle.clausal.specs.Totals.{Size, size_of, shown, clause_ceiling, literal_ceiling}
 use Rattle.clausal.specs.Calls.{ceilings}
@@ -36,16 +38,16 @@ case x room = go (ltb x.clauses clause_ceiling) refl (ltb x.literals literal_cei
     go true p true q true r = no_room (ltb-true _ _ p) (ltb-true _ _ q) (ltb-true _ _ r)
     go true p true q false r = fits (ltb-true _ _ p) (ltb-true _ _ q) (ltb-false _ _ r)
 
-over-clauses : (x : Size) → clause_ceiling ≤ x.clauses → ceilings x ≡ Clauses
+over-clauses : (x : Size) → clause_ceiling ≤ x.clauses → ceilings x ≡ Err Clauses
 over-clauses x h = rw (le-ltb x.clauses clause_ceiling h)
 
-over-literals : (x : Size) → x.clauses < clause_ceiling → literal_ceiling ≤ x.literals → ceilings x ≡ Literals
+over-literals : (x : Size) → x.clauses < clause_ceiling → literal_ceiling ≤ x.literals → ceilings x ≡ Err Literals
 over-literals x h g = rw (lt-ltb x.clauses clause_ceiling h, le-ltb x.literals literal_ceiling g)
 
-refused-clauses : (x : Size) (room : ℕ) → clause_ceiling ≤ x.clauses → fitted x room ≡ Clauses
+refused-clauses : (x : Size) (room : ℕ) → clause_ceiling ≤ x.clauses → fitted x room ≡ Err Clauses
 refused-clauses x room h = rw (le-ltb x.clauses clause_ceiling h)
 
-refused-literals : (x : Size) (room : ℕ) → x.clauses < clause_ceiling → literal_ceiling ≤ x.literals → fitted x room ≡ Literals
+refused-literals : (x : Size) (room : ℕ) → x.clauses < clause_ceiling → literal_ceiling ≤ x.literals → fitted x room ≡ Err Literals
 refused-literals x room h g = rw (lt-ltb x.clauses clause_ceiling h, le-ltb x.literals literal_ceiling g)
 
 -- below both ceilings the totals as reported are the true ones
@@ -90,8 +92,8 @@ sizes-below x e = go (case x 0)
     never a f g = let h = ap refuses f in let z : ◌≡◌ {A = ℕ} 0 1 = cc in omega arith
 
     go : Case x 0 → (x.clauses < clause_ceiling) × (x.literals < literal_ceiling) × (shown x ≡ x)
-    go (many-clauses h) = absurd (never Clauses (over-clauses x h) refl)
-    go (many-literals h g) = absurd (never Literals (over-literals x h g) refl)
+    go (many-clauses h) = absurd (never (Err Clauses) (over-clauses x h) refl)
+    go (many-literals h g) = absurd (never (Err Literals) (over-literals x h g) refl)
     go (no_room h g r) = (h, g, shown-below x h g)
     go (fits h g r) = (h, g, shown-below x h g)
 
@@ -108,9 +110,9 @@ fitted-below x room e = go (case x room)
     never a f g = let h = ap refuses f in let z : ◌≡◌ {A = ℕ} 0 1 = cc in omega arith
 
     go : Case x room → Below x room
-    go (many-clauses h) = absurd (never Clauses (refused-clauses x room h) refl)
-    go (many-literals h g) = absurd (never Literals (refused-literals x room h g) refl)
-    go (no_room h g r) = absurd (never Room
+    go (many-clauses h) = absurd (never (Err Clauses) (refused-clauses x room h) refl)
+    go (many-literals h g) = absurd (never (Err Literals) (refused-literals x room h g) refl)
+    go (no_room h g r) = absurd (never (Err Room)
         (rw (lt-ltb x.clauses clause_ceiling h, lt-ltb x.literals literal_ceiling g, lt-ltb room (bytes_for x) r)) refl)
     go (fits h g r) = record { clauses = h; same = shown-below x h g; room = r }
 
@@ -126,20 +128,20 @@ pub fitted-stored : (x : Size) (a : Answer) (bytes before : List ℕ) → length
 fitted-stored x a bytes before e = go (ceilings x)
   where
     go : (c : Answer)
-        → afterwards (cond (refuses c) c (cond (ltb (length before) (bytes_for x)) Room (Accepted 0 0))) before
+        → afterwards (cond (refuses c) c (cond (ltb (length before) (bytes_for x)) (Err Room) (accepted_with 0 0))) before
         (record { answer = a; output = splice before 0 bytes })
         ≡ afterwards c before (stored a bytes before)
     go c = at (refuses c) refl
       where
         at : (b : Bool) → refuses c ≡ b
-            → afterwards (cond b c (cond (ltb (length before) (bytes_for x)) Room (Accepted 0 0))) before
+            → afterwards (cond b c (cond (ltb (length before) (bytes_for x)) (Err Room) (accepted_with 0 0))) before
             (record { answer = a; output = splice before 0 bytes })
             ≡ cond b (record { answer = c; output = before }) (stored a bytes before)
         at true f = rw f
-        at false f = ap (λ (n : ℕ). afterwards (cond (ltb (length before) n) Room (Accepted 0 0)) before
+        at false f = ap (λ (n : ℕ). afterwards (cond (ltb (length before) n) (Err Room) (accepted_with 0 0)) before
             (record { answer = a; output = splice before 0 bytes })) (sym e) ∙ tested (ltb (length before) (length bytes))
           where
-            tested : (z : Bool) → afterwards (cond z Room (Accepted 0 0)) before (record { answer = a; output = splice before 0 bytes })
-                ≡ cond z (record { answer = Room; output = before }) (record { answer = a; output = splice before 0 bytes })
+            tested : (z : Bool) → afterwards (cond z (Err Room) (accepted_with 0 0)) before (record { answer = a; output = splice before 0 bytes })
+                ≡ cond z (record { answer = Err Room; output = before }) (record { answer = a; output = splice before 0 bytes })
             tested true = refl
             tested false = refl

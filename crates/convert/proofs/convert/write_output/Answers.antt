@@ -12,13 +12,13 @@ use Rattle.convert.proofs.convert.write_output.Goals as goal
 pub name_all-last-requires : goal.name_all-last-requires
 name_all-last-requires c =
     let a = c.args in
-    unnamed a.table.now a.taken a.marks.now a.set.now a.clauses.now a.literals.now c.requires.prepared
+    unnamed a.table.now a.taken a.marks.now a.set.now a.columns.now c.requires.prepared
 
 pub write_all-requires : goal.write_all-requires
 write_all-requires c =
     let a = c.args in
-    output_due a.table.now a.taken a.marks.now a.set.now a.clauses.now a.literals.now c.requires.prepared _
-    c.name_all-last.ensures.1 a.out.now (omega (arith, c.well_formed)) c.requires.fits
+    output_due _ a.taken a.marks.now a.set.now c.requires.prepared c.name_all-last.ensures.1 a.out.now
+    (omega (arith, c.well_formed)) c.requires.fits
 
 pub returns : goal.returns
 returns c =
@@ -28,6 +28,5 @@ returns c =
       c.out-1.given.1.0 (sym (ap (λ (x : MutBor (List ℕ)). x.ghost_name) bytes))
           ∙ ap (λ (x : MutBor (List ℕ)). x.now) bytes
           ∙ ap (λ (l : List Clause). splice a.out.now 0 (clauses_bytes l))
-          (parts_are a.table.now a.taken a.marks.now a.set.now a.clauses.now a.literals.now
-          c.requires.prepared _ c.name_all-last.ensures.1),
+          (parts_are a.table.now a.taken a.marks.now a.set.now a.columns.now c.requires.prepared _ c.name_all-last.ensures.1),
     )

@@ -1,38 +1,35 @@
 -- `convert::convert::write_under` meets its contract: the totals and the room decide, then the output is written.
 -- Assumes nothing.
 use mathlib.Core.Path.{◌∙◌}
-use mathlib.Core.Bool.{false}
-use Rattle.answer.proofs.Laws.Order.{tested, refused-wrote, accepted-wrote}
+use borrow.Author.Rules.{rules}
+use Rattle.answer.proofs.Laws.Order.{accepts_of, refused-wrote, accepted-wrote}
 use Rattle.capped.specs.Inner.Sized.{sized}
 use Rattle.convert.proofs.Laws.Written.{fits_as_output, reported-is, written-under}
 use Rattle.convert.proofs.convert.write_under.Goals as goal
 
-pub returns-then-is_refusal : goal.returns-then-is_refusal
-returns-then-is_refusal c =
+pub returns-in_err-fit : goal.returns-in_err-fit
+returns-in_err-fit c =
     let a = c.args in
     let p = c.requires.prepared in
-    let e = fits_as_output a.table.now a.taken a.marks.now a.set.now a.clauses.now a.literals.now p _
-    c.requires.whole a.out.now _ c.fit-fits.ensures in
-    refused-wrote _ _ _ e c.is_refusal.ensures a.out.now _ c.if-is_refusal.true
-    ∙ written-under a.table.now a.taken a.marks.now a.set.now a.clauses.now a.literals.now p (sized a.sum)
-    c.requires.whole a.out.now
+    let e = fits_as_output a.table.now a.taken a.marks.now a.set.now a.columns.now p _ c.requires.whole a.out.now _ c.fit.ensures in
+    let refused = refused-wrote _ _ e _ a.out.now _ c.in_err-fit.was
+    ∙ written-under a.table.now a.taken a.marks.now a.set.now a.columns.now p (sized a.sum) c.requires.whole a.out.now in
+    search rules
 
 pub write_output-last-requires : goal.write_output-last-requires
 write_output-last-requires c =
     let a = c.args in
-    let e = fits_as_output a.table.now a.taken a.marks.now a.set.now a.clauses.now a.literals.now
-    c.requires.prepared _ c.requires.whole a.out.now _ c.fit-fits.ensures in
-    record { prepared = c.requires.prepared; fits = tested _ _ _ e c.is_refusal.ensures false c.if-is_refusal.false }
+    let p = c.requires.prepared in
+    let e = fits_as_output a.table.now a.taken a.marks.now a.set.now a.columns.now p _ c.requires.whole a.out.now _ c.fit.ensures in
+    record { prepared = p; fits = accepts_of _ _ e _ c.in_ok-fit.was }
 
 pub returns : goal.returns
 returns c =
     let a = c.args in
     let p = c.requires.prepared in
-    let e = fits_as_output a.table.now a.taken a.marks.now a.set.now a.clauses.now a.literals.now p _
-    c.requires.whole a.out.now _ c.fit-fits.ensures in
-    let ok = tested _ _ _ e c.is_refusal.ensures false c.if-is_refusal.false in
-    accepted-wrote _ _ _ e c.is_refusal.ensures a.out.now _ _ c.if-is_refusal.false
-    (reported-is a.table.now a.taken a.marks.now a.set.now a.clauses.now a.literals.now p (sized a.sum)
-    c.requires.whole a.out.now _ _ ok c.write_output-last.ensures.0 c.write_output-last.ensures.1)
-    ∙ written-under a.table.now a.taken a.marks.now a.set.now a.clauses.now a.literals.now p (sized a.sum)
-    c.requires.whole a.out.now
+    let e = fits_as_output a.table.now a.taken a.marks.now a.set.now a.columns.now p _ c.requires.whole a.out.now _ c.fit.ensures in
+    let ok = accepts_of _ _ e _ c.in_ok-fit.was in
+    accepted-wrote _ _ e _ a.out.now _ _ c.in_ok-fit.was
+    (reported-is a.table.now a.taken a.marks.now a.set.now a.columns.now p (sized a.sum) c.requires.whole a.out.now _ _ _ ok
+    c.write_output-last.ensures.0 (search rules) c.write_output-last.ensures.1)
+    ∙ written-under a.table.now a.taken a.marks.now a.set.now a.columns.now p (sized a.sum) c.requires.whole a.out.now
