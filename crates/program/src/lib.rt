@@ -8,7 +8,7 @@ ghost use Rattle.formula.specs.Tables.{node_bytes};
 ghost use Rattle.program.specs.Printed.{buffer_bytes, clauses_printed, set_printed, table_printed, printed, Shows};
 ghost use Rattle.program.specs.Inner.Sizes.{size_told, Room};
 
-use answer::{is_refusal, tell};
+use answer::tell;
 use clausebytes::word::room;
 use formula::node::{MOST_NODES, MOST_TABLE, NODE_BYTES};
 use refusal::put_refusal;
@@ -24,10 +24,10 @@ fn print_clauses(clauses: &[u8], variables: u32, out: &mut [u8]) -> usize
     ensures { Shows (clauses_printed clauses.now variables) out.old result out.new }
 {
     let written = dimacs::write(clauses, variables, out);
-    if is_refusal(written) {
-        return put_refusal(written, out);
+    match written {
+        Ok(_) => dimacs::text_length(clauses, variables),
+        Err(refusal) => put_refusal(refusal, out),
     }
-    dimacs::text_length(clauses, variables)
 }
 
 // How many clause bytes a table has under a set.
@@ -45,12 +45,13 @@ fn print_set(table: &[u8], options: u32, set: &[u8], out: &mut [u8]) -> usize
 {
     let mut clauses = [0u8; BUFFER];
     let made = convert::convert::convert(table, options, set, &mut clauses);
-    if is_refusal(made) {
-        return put_refusal(made, out);
+    match made {
+        Ok(reported) => {
+            let bytes = size(table, options, set);
+            print_clauses(&clauses[..bytes], reported.first, out)
+        }
+        Err(refusal) => put_refusal(refusal, out),
     }
-    let told = tell(made);
-    let bytes = size(table, options, set);
-    print_clauses(&clauses[..bytes], told.first, out)
 }
 
 // Chooses a set for a table, and prints the clauses under it.
@@ -61,10 +62,10 @@ fn print_table(table: &[u8], options: u32, out: &mut [u8]) -> usize
     let mut sets = [0u8; MOST_NODES];
     let set = &mut sets[..table.len() / NODE_BYTES];
     let chosen = choose::pass::choose(table, options, ALLOWANCE, set);
-    if is_refusal(chosen) {
-        return put_refusal(chosen, out);
+    match chosen {
+        Ok(_) => print_set(table, options, set, out),
+        Err(refusal) => put_refusal(refusal, out),
     }
-    print_set(table, options, set, out)
 }
 
 // How many bytes the nodes of a table take.
@@ -81,10 +82,11 @@ pub fn print(text: &[u8], out: &mut [u8]) -> usize
 {
     let mut table = [0u8; MOST_TABLE];
     let read = nodefile::read(text, &mut table);
-    if is_refusal(read) {
-        return put_refusal(read, out);
+    match read {
+        Ok(reported) => {
+            let bytes = table_size(reported.second);
+            print_table(&table[..bytes], reported.first, out)
+        }
+        Err(refusal) => put_refusal(refusal, out),
     }
-    let told = tell(read);
-    let bytes = table_size(told.second);
-    print_table(&table[..bytes], told.first, out)
 }

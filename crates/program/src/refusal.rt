@@ -1,14 +1,10 @@
 // The line of a refusal.
-ghost use Rattle.std.specs.Prelude.{◌≡◌, ◌+◌, ◌≤◌, length};
+ghost use Rattle.std.specs.Prelude.{◌+◌, ◌≡◌, ◌≤◌, length, Err};
 ghost use Rattle.program.specs.Printed.{buffer_bytes, field, refusal_line, Shows};
 ghost use Rattle.program.specs.Inner.Sizes.{most_field, PutShort};
 
-use answer::{Answer, shown, tell};
+use answer::{Refusal, shown, tell};
 use text::write::{put_bytes, put_field};
-
-const TAB: u8 = 9;
-
-const NEWLINE: u8 = 10;
 
 // Writes a number and a byte behind it where there is room for any number, and returns the next place.
 fn put(out: &mut [u8], at: usize, number: u32, end: u8) -> usize
@@ -19,12 +15,12 @@ fn put(out: &mut [u8], at: usize, number: u32, end: u8) -> usize
 }
 
 // Writes the line of a refusal at the start of a buffer, and returns its length.
-pub fn put_refusal(answer: Answer, out: &mut [u8]) -> usize
+pub fn put_refusal(refusal: Refusal, out: &mut [u8]) -> usize
     requires { length out.old ≡ buffer_bytes }
-    ensures { Shows (refusal_line answer) out.old result out.new }
+    ensures { Shows (refusal_line (Err refusal)) out.old result out.new }
 {
-    let told = tell(answer);
+    let told = tell(Err(refusal));
     let number = put_bytes(out, 0, b"refused\t");
-    let place = put(out, number, told.number, TAB);
-    put(out, place, shown(told.place), NEWLINE)
+    let place = put(out, number, told.number, b'\t');
+    put(out, place, shown(told.place), b'\n')
 }

@@ -14,6 +14,7 @@ use Rattle.answer.specs.Answers.{told_of, refuses, Wrote, stored}
 use Rattle.answer.specs.Answers.{Answer}
 use Rattle.answer.specs.Answers.{accepted_with}
 use Rattle.std.specs.Prelude.{Err}
+use Rattle.answer.specs.declared.Fault.{Fault}
 use Rattle.answer.specs.declared.Refusal.TheVariants.{Record, Line}
 use Rattle.answer.proofs.Laws.Order.{accepted-afterwards}
 use Rattle.answer.proofs.Laws.Part.{stored-fits}
@@ -41,10 +42,10 @@ module _ (text : List ℕ) where
       go false false q r = let z : ◌≡◌ {A = ℕ} 0 1 = cc in absurd (omega arith)
 
   -- a fault of a record is printed with its number and its node
-  pub fault-printed : (number node : ℕ) → refuses (file_checked text) ≡ false
-      → checked (file_table text) (option_count (line_of text 0)) ≡ Err (Record number) node → refuses (Err (Record number node)) ≡ true
-      → printed text ≡ refusal_line (Err (Record number node))
-  fault-printed number node r e f = rw (r, e, f)
+  pub fault-printed : (fault : Fault) (node : ℕ) → refuses (file_checked text) ≡ false
+      → checked (file_table text) (option_count (line_of text 0)) ≡ Err (Record fault node)
+      → printed text ≡ refusal_line (Err (Record fault node))
+  fault-printed fault node r e = rw (r, e)
 
   module _ (before : List ℕ) (size : length before ≡ most_table) where
     -- there is room for its table

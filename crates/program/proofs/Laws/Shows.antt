@@ -12,7 +12,9 @@ use Rattle.text.specs.Texts.{decimal}
 use Rattle.text.proofs.Laws.Decimals.{length_decimal_le}
 use Rattle.answer.specs.Answers.{refuses, Wrote, afterwards}
 use Rattle.answer.specs.Answers.{Answer}
-use Rattle.answer.proofs.Laws.Order.{tested}
+use Rattle.std.specs.Prelude.{Ok, Err}
+use Rattle.answer.specs.declared.Accepted.{Accepted}
+use Rattle.answer.specs.declared.Refusal.{Refusal}
 use Rattle.program.specs.Printed.{field, refusal_line, unless_refused, Shows}
 
 pub shows_stored : {xs before after : List ℕ} {count : ℕ} → length xs ≤ length before → Stored xs before 0 count after
@@ -28,17 +30,13 @@ pub shows_as : {xs ys before was after : List ℕ} {count : ℕ} → xs ≡ ys �
 shows_as {ys = ys} {before} {after = after} {count} e f s =
     subst⁻¹ (λ (l : List ℕ). Shows l before count after) e (subst⁻¹ (λ (l : List ℕ). Shows ys l count after) f s)
 
--- what is printed goes by an answer b; a is b, and was tested
-module _ (line : List ℕ) (b : Answer) (next : List ℕ) (q : line ≡ unless_refused b next)
-    (a : Answer) (e : a ≡ b) (r : Bool) (f : r ≡ refuses a) where
-  goes : (t : Bool) → r ≡ t → line ≡ cond t (refusal_line b) next
-  goes t g = q ∙ ap (λ (u : Bool). cond u (refusal_line b) next) (tested a b r e f t g)
+-- what is printed goes by an answer b; a is b
+module _ (line : List ℕ) (b : Answer) (next : List ℕ) (q : line ≡ unless_refused b next) (a : Answer) (e : a ≡ b) where
+  pub line_refused : (r : Refusal) → a ≡ Err r → line ≡ refusal_line (Err r)
+  line_refused r g = q ∙ ap (λ (x : Answer). unless_refused x next) (sym e ∙ g)
 
-  pub line_refused : r ≡ true → line ≡ refusal_line a
-  line_refused g = goes true g ∙ ap refusal_line (sym e)
-
-  pub line-accepted : r ≡ false → line ≡ next
-  line-accepted g = goes false g
+  pub line-accepted : (x : Accepted) → a ≡ Ok x → line ≡ next
+  line-accepted x g = q ∙ ap (λ (y : Answer). unless_refused y next) (sym e ∙ g)
 
 -- a call that checks first refuses as its check does
 pub unless_checked : {O : Type 0} (c : Answer) (before : O) (w : Wrote O) (next : List ℕ)
