@@ -7,37 +7,8 @@ use native.Mathlib.Omega.{arith}
 use Rattle.bits.proofs.Laws.Bytes.{byte-to, power_within, shifted, to-there, to-missing}
 use Rattle.bits.proofs.byte_to.Goals as goal
 
-pub returns-then-there : goal.returns-then-there
-returns-then-there c =
-    let x = c.args in
-    sym (to-there x.byte x.k x.there c.if-byte-k-eq1.true ∙ rw c.if-there.true)
-
-pub overflow_sub-result : goal.overflow_sub-result
-overflow_sub-result c =
-    let x = c.args in
-    let small : x.byte < 256 = omega (arith, c) in
-    omega (arith, shifted x.k c.requires, power_within true x.byte x.k small c.requires c.if-byte-k-eq1.true)
-
-pub returns-then-byte-k-eq1 : goal.returns-then-byte-k-eq1
-returns-then-byte-k-eq1 c =
-    let x = c.args in
-    ap (λ (p : ℕ). x.byte - p) (shifted x.k c.requires)
-    ∙ sym (to-there x.byte x.k x.there c.if-byte-k-eq1.true ∙ rw c.if-there.false)
-
--- the bit is not there, and is put in or stays away
-pub returns-then-there-2 : goal.returns-then-there-2
-returns-then-there-2 c =
-    let x = c.args in
-    ap (λ (p : ℕ). x.byte + p) (shifted x.k c.requires)
-    ∙ sym (to-missing x.byte x.k x.there c.if-byte-k-eq1.false ∙ rw c.if-there-2.true)
-
 pub overflow_add-result : goal.overflow_add-result
 overflow_add-result c =
     let x = c.args in
     let small : x.byte < 256 = omega (arith, c) in
     record { fits = omega (arith, (let x = c.args in ap (λ (p : ℕ). x.byte + p) (shifted x.k c.requires) ∙ sym (to-missing x.byte x.k x.there c.if-byte-k-eq1.false ∙ rw c.if-there-2.true)), byte-to x.there x.byte x.k small c.requires) }
-
-pub returns : goal.returns
-returns c =
-    let x = c.args in
-    sym (to-missing x.byte x.k x.there c.if-byte-k-eq1.false ∙ rw c.if-there-2.false)

@@ -78,15 +78,3 @@ returns c =
     let l = c.loop-i in
     let x = c.args in
     found_right x.bytes.now x.variables (ended (goal.at.returns c).After-loop-i) l.invariant.1 l.invariant.0 c.if-not-closed.false
-
-pub returns-then-variables-gt-MOST_VARIABLES : goal.returns-then-variables-gt-MOST_VARIABLES
-returns-then-variables-gt-MOST_VARIABLES c =
-    let x = c.args in found-many x.bytes.now x.variables c.if-variables-gt-MOST_VARIABLES.true
-
-pub returns-then-bytes-ne0 : goal.returns-then-bytes-ne0
-returns-then-bytes-ne0 c =
-    let x = c.args in found_part x.bytes.now x.variables c.if-bytes-ne0.true
-
-pub loop-i-init : goal.loop-i-init
-loop-i-init c =
-    (c.if-variables-gt-MOST_VARIABLES.false, c.if-bytes-ne0.false, checking_start _ _)

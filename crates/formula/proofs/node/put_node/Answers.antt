@@ -34,25 +34,6 @@ module _ (t : List ℕ) (at kind a b : ℕ) (room : at + node_bytes ≤ length t
       → length o ≡ length t
   third-length m o e f = stored-length (omega arith) (third m o e f)
 
-pub put_field-requires : goal.put_field-requires
-put_field-requires c = simp length-set (omega arith)
-
-pub put_field-requires-2 : goal.put_field-requires-2
-put_field-requires-2 c =
-    let a = c.args in
-    omega (
-      arith,
-      second-length a.table.now a.at a.kind a.a a.b c.requires c.put_field.new.table
-          c.put_field.ensures,
-      c.requires,
-    )
-
-pub shape_of-table : goal.shape_of-table
-shape_of-table c =
-    let a = c.args in
-    third-length a.table.now a.at a.kind a.a a.b c.requires c.put_field.new.table c.put_field-2.new.table
-    c.put_field.ensures c.put_field-2.ensures
-
 pub returns : goal.returns
 returns c =
     let a = c.args in

@@ -18,20 +18,12 @@ put_literals-drawn-requires c =
       drawable = literals_room (firsts_of clause) (literal_changes x.clause (others_of clause)) p.drawable;
     }
 
-pub wipe-requires : goal.wipe-requires
-wipe-requires c =
-    marked_legible c.requires.ready c.args.from _ c.put_literals-drawn.ensures.1
-
 -- the zero has room, and one clause more is counted
 pub put_word-requires : goal.put_word-requires
 put_word-requires c =
     let x = c.args in
     let clause = clause_from x.bytes.now x.from in
     (zero_room (firsts_of clause) (literal_changes x.clause (others_of clause)) c.requires.drawable c.put_literals-drawn.ensures.0).kept_room
-
-pub overflow_add-result : goal.overflow_add-result
-overflow_add-result c =
-    record { fits = omega (arith, c.requires.drawable.clauses_few, c.put_literals-drawn.ensures.0.clauses_are) }
 
 pub returns : goal.returns
 returns c =

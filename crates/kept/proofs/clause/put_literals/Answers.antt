@@ -80,18 +80,6 @@ loop-i-preserved c =
     c.if-word-eq0.false c.code-n.result c.code-n.ensures c.has-seen.result c.has-seen.ensures (small (goal.at.loop-i-preserved c).Else-word-eq0)
     c.put_literal-drawn.ensures _ c.put.ensures
 
-pub shape_of-out-then-word-eq0 : goal.shape_of-out-then-word-eq0
-shape_of-out-then-word-eq0 c =
-    (lengths (goal.at.shape_of-out-then-word-eq0 c).At-loop-i).0
-
-pub shape_of-lines-then-word-eq0 : goal.shape_of-lines-then-word-eq0
-shape_of-lines-then-word-eq0 c =
-    (lengths (goal.at.shape_of-lines-then-word-eq0 c).At-loop-i).1
-
-pub shape_of-row-then-word-eq0 : goal.shape_of-row-then-word-eq0
-shape_of-row-then-word-eq0 c =
-    row-length (goal.at.shape_of-row-then-word-eq0 c).At-loop-i
-
 pub code-n-requires : goal.code-n-requires
 code-n-requires c =
     small c
@@ -100,26 +88,6 @@ pub has-seen-requires : goal.has-seen-requires
 has-seen-requires c =
     inside c
 
-pub overflow_sub-i : goal.overflow_sub-i
-overflow_sub-i c =
-    omega (arith, c.loop-i.invariant.onward)
-
-pub overflow_cast-i : goal.overflow_cast-i
-overflow_cast-i c =
-    record { fits = omega (arith, c.requires.long, here c) }
-
 pub put-requires : goal.put-requires
 put-requires c =
     inside (goal.at.put-requires c).After-code-n
-
-pub shape_of-out : goal.shape_of-out
-shape_of-out c =
-    (lengths (goal.at.shape_of-out c).At-loop-i).0
-
-pub shape_of-lines : goal.shape_of-lines
-shape_of-lines c =
-    (lengths (goal.at.shape_of-lines c).At-loop-i).1
-
-pub shape_of-row : goal.shape_of-row
-shape_of-row c =
-    row-length (goal.at.shape_of-row c).At-loop-i

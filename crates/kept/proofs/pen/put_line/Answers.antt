@@ -46,10 +46,6 @@ sized c =
 low : (c : After-width-then-not-writing) → c.args.at + length (line (goal.at.After-width-then-not-writing c).Start) < 2 ^ 63
 low c = c.requires.low
 
-pub returns-then-not-writing : goal.returns-then-not-writing
-returns-then-not-writing c =
-    put-measured c.args.writing c.if-not-writing.true (omega (arith, sized c))
-
 -- written: the room for the whole, and for the rest behind the first number
 room : (c : Else-not-writing)
     → c.args.at + length (first (goal.at.Else-not-writing c).Start ++ rest (goal.at.Else-not-writing c).Start) ≤ length c.args.lines.now
@@ -69,33 +65,3 @@ returns c =
     let all-stored = stored-both (first (goal.at.returns c).Start) (rest (goal.at.returns c).Start) c.args.lines.now c.args.at (room (goal.at.returns c).Else-not-writing)
     c.put_number-word.ensures rest-stored in
     put_written c.args.writing c.if-not-writing.false (stored_as (split (goal.at.returns c).Start) all-stored)
-
-pub overflow_add-result : goal.overflow_add-result
-overflow_add-result c =
-    omega (arith, sized c, low c)
-
-pub overflow_add-result-then-not-writing : goal.overflow_add-result-then-not-writing
-overflow_add-result-then-not-writing c =
-    omega (arith, sized c, low c)
-
-pub overflow_add-result-then-not-writing-2 : goal.overflow_add-result-then-not-writing-2
-overflow_add-result-then-not-writing-2 c =
-    omega (arith, sized c, low c)
-
-pub overflow_add-result-then-not-writing-3 : goal.overflow_add-result-then-not-writing-3
-overflow_add-result-then-not-writing-3 c =
-    omega (arith, sized c, low c)
-
-pub put_number-word-requires : goal.put_number-word-requires
-put_number-word-requires c =
-    room-left (first (goal.at.put_number-word-requires c).Start) (rest (goal.at.put_number-word-requires c).Start) c.args.lines.now c.args.at (room (goal.at.put_number-word-requires c).Else-not-writing)
-
-pub put_bytes-last-requires : goal.put_bytes-last-requires
-put_bytes-last-requires c =
-    subst (λ (xs : List ℕ). c.put_number-word.result + length xs ≤ length c.put_number-word.new.text) (sym c.text-text.ensures)
-    (room-left (word (goal.at.put_bytes-last-requires c).Start) (end (goal.at.put_bytes-last-requires c).Start) c.put_number-word.new.text c.put_number-word.result (rest-room (goal.at.put_bytes-last-requires c).After-put_number-word))
-
-pub put_field-requires : goal.put_field-requires
-put_field-requires c =
-    room-right (word (goal.at.put_field-requires c).Start) (end (goal.at.put_field-requires c).Start) c.put_number-word.new.text c.put_number-word.result (rest-room (goal.at.put_field-requires c).After-put_number-word)
-    (stored_as (sym c.text-text.ensures) c.put_bytes-last.ensures)

@@ -116,14 +116,6 @@ pub returns : goal.returns
 returns c =
     marked (goal.at.returns c).At-loop-i (clause-end c.args.bytes.now c.loop-i.i c.loop-i-test.false)
 
-pub shape_of-row-then-word-eq0 : goal.shape_of-row-then-word-eq0
-shape_of-row-then-word-eq0 c =
-    same_length (goal.at.shape_of-row-then-word-eq0 c).At-loop-i
-
 pub code-n-requires : goal.code-n-requires
 code-n-requires c =
     small c
-
-pub shape_of-row : goal.shape_of-row
-shape_of-row c =
-    same_length (goal.at.shape_of-row c).At-loop-i

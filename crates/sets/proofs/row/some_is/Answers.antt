@@ -52,10 +52,6 @@ returns c =
     let x = c.args in
     sym (ap (some_is x.row.now x.turned) (clause-end x.bytes.now c.loop-i.i c.loop-i-test.false)) ∙ c.loop-i.invariant
 
-pub loop-i-init : goal.loop-i-init
-loop-i-init c =
-    refl
-
 pub code-requires : goal.code-requires
 code-requires c =
     small c

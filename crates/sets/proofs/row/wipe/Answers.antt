@@ -47,18 +47,6 @@ returns c =
     let bytes = c.args.bytes.now in
     sym (ap (λ (x : Clause). wiped (codes_of x) l.row) (clause-end bytes l.i c.loop-i-test.false)) ∙ l.invariant.1
 
-pub loop-i-init : goal.loop-i-init
-loop-i-init c =
-    (c.requires.size, refl)
-
-pub shape_of-row-then-word-eq0 : goal.shape_of-row-then-word-eq0
-shape_of-row-then-word-eq0 c =
-    c.loop-i.invariant.0 ∙ sym c.requires.size
-
 pub code-at-requires : goal.code-at-requires
 code-at-requires c =
     small c
-
-pub shape_of-row : goal.shape_of-row
-shape_of-row c =
-    c.loop-i.invariant.0 ∙ sym c.requires.size

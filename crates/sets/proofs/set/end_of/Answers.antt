@@ -22,7 +22,3 @@ pub returns : goal.returns
 returns c =
     let l = c.loop-i in
     omega (arith, ap length (clause-end (c.args.bytes.now) l.i c.loop-i-test.false)) ∙ l.invariant.1
-
-pub loop-i-init : goal.loop-i-init
-loop-i-init c =
-    (omega arith, refl)

@@ -4,14 +4,6 @@ use Rattle.sets.specs.Inner.Sets.{clause_from}
 use Rattle.sets.proofs.Laws.Codes.{marked_legible, marked-some, marked-wiped}
 use Rattle.sets.proofs.set.some_of.Goals as goal
 
-pub some_is-some-requires : goal.some_is-some-requires
-some_is-some-requires c =
-    marked_legible c.requires c.args.b _ c.mark.ensures.1
-
-pub wipe-requires : goal.wipe-requires
-wipe-requires c =
-    marked_legible c.requires c.args.b _ c.mark.ensures.1
-
 pub returns : goal.returns
 returns c =
     let x = c.args in (
