@@ -81,8 +81,7 @@ pub fn put_all(
         },
     };
     let mut seed = 0;
-    let mut start = 0;
-    while start < count {
+    for start in (0..count).step_by(1_024) {
         let size = window_size(count - start);
         let found = first_clauses(bytes, start, walked.place, size, seed, &mut row);
         let firsts = found.firsts;
@@ -99,7 +98,6 @@ pub fn put_all(
             pen,
         );
         seed = found.seed;
-        start += size as u32;
     }
     walked.pen
 }

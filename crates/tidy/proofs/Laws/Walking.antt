@@ -5,6 +5,7 @@ use mathlib.Core.List.{List, [], ◌∷◌}
 use Prim.Native.Nat.{ℕ, ◌+◌, ◌-◌, ◌≤◌, ◌<◌}
 use native.Mathlib.Nat.{zero-add}
 use native.Mathlib.Omega.{arith}
+use Rattle.std.specs.Prelude.{min}
 use lib.Dec.{ltb}
 use lib.ListN.{length}
 use borrow.Author.Tests.{le-ltb, ltb-true, ltb-false}
@@ -37,13 +38,14 @@ pub record Sized (k size : ℕ) : Type 0 where
   pub few : size ≤ most
   pub within : size ≤ k
   pub some : 0 < k → 0 < size
+  pub least : size ≡ min k most
 
 pub window_sized : (k size : ℕ) → size ≡ cond (ltb k most) k most → Sized k size
 window_sized k size e = subst⁻¹ (Sized k) e (go (ltb k most) refl)
   where
     go : (b : Bool) → ltb k most ≡ b → Sized k (cond b k most)
-    go true f = let h = ltb-true k most f in record { few = omega arith; within = omega arith; some = λ g. g }
-    go false f = let h = ltb-false k most f in record { few = omega arith; within = h; some = λ g. omega arith }
+    go true f = let h = ltb-true k most f in record { few = omega arith; within = omega arith; some = λ g. g; least = omega arith }
+    go false f = let h = ltb-false k most f in record { few = omega arith; within = h; some = λ g. omega arith; least = omega arith }
 
 -- the clauses before number `start` were put
 pub record Walking (bytes : List ℕ) (writing : Bool) (out lines mid left : List ℕ) (walked : Walked) (seed start : ℕ)
