@@ -1,20 +1,21 @@
 -- `tidy::pass::put_all` meets its contract: window after window, its first clauses are looked for and it is put.
 -- Assumes nothing.
-use mathlib.Core.Path.{◌≡◌, refl, sym, ap, ◌∙◌, subst}
+use mathlib.Core.Path.{◌≡◌, refl, sym, ap, ◌∙◌, subst, subst⁻¹}
 use mathlib.Core.List.{List}
-use Prim.Native.Nat.{ℕ, ◌+◌, ◌-◌, ◌<◌}
+use Prim.Native.Nat.{ℕ, ◌+◌, ◌-◌, ◌<◌, ◌≤◌}
 use Rattle.std.specs.Prelude.{min}
 use native.Mathlib.Omega.{arith}
 use borrow.Author.Rules.{rules}
-use lib.ListN.{length, length-replicate}
+use lib.ListN.{length, take, length-replicate}
+use Rattle.std.proofs.lemmas.List.{length-take-le}
 use Rattle.clausebytes.proofs.Encoded.{Bytes}
 use Rattle.sets.specs.Inner.Sets.{row_bytes, no_literals}
 use Rattle.tidy.specs.Inner.Windows.{most}
 use Rattle.sets.specs.Inner.Sets.{seeds}
-use Rattle.tidy.specs.Inner.Passes.{start_pen, Passed}
+use Rattle.tidy.specs.Inner.Passes.{start_pen, Passable, Passed}
 use Rattle.tidy.specs.declared.pass.Walked.{Walked}
 use Rattle.tidy.proofs.Laws.Walking.{Walking, Sized, window_sized, walking_start, walking_searchable}
-use Rattle.tidy.proofs.Laws.Walking.{walking_passable, walking_next, walking_end, lengths-same}
+use Rattle.tidy.proofs.Laws.Walking.{walking_passable, walking_next, walking_end}
 use Rattle.tidy.proofs.pass.put_all.Goals.{After-first_clauses-found, After-window_size-size, At-loop-start, In-loop-start}
 use Rattle.tidy.proofs.pass.put_all.Goals.{else-loop-start-test, then-loop-start-test+else-count-start-gt1024}
 use Rattle.tidy.proofs.pass.put_all.Goals as goal
@@ -45,10 +46,6 @@ pub slice_bounds-first_clauses-end : goal.slice_bounds-first_clauses-end
 slice_bounds-first_clauses-end c =
     long _ c.loop-start.invariant.1
 
-pub slice_bounds-put_window-end : goal.slice_bounds-put_window-end
-slice_bounds-put_window-end c =
-    sym (firsts-long (goal.at.slice_bounds-put_window-end c).After-first_clauses-found)
-
 pub slice_bounds-put_window-end-in-loop-start : goal.slice_bounds-put_window-end-in-loop-start
 slice_bounds-put_window-end-in-loop-start c =
     long _ (row-found (goal.at.slice_bounds-put_window-end-in-loop-start c).After-first_clauses-found)
@@ -56,9 +53,11 @@ slice_bounds-put_window-end-in-loop-start c =
 pub loop-start-init : goal.loop-start-init
 loop-start-init c =
     let x = c.args in
-    let e : 0 ≡ min 0 x.count = omega arith in
-    (subst (λ (n : ℕ). Walking x.bytes.now x.writing x.out.now x.lines.now x.out.now x.lines.now (record { place = 0; pen = start_pen x.writing }) 0 n) e
-    (walking_start x.bytes.now x.writing x.out.now x.lines.now), refl)
+    let e : 0 ≡ min 0 x.count = omega arith in (
+      subst (λ (n : ℕ). Walking x.bytes.now x.writing x.out.now x.lines.now x.out.now x.lines.now (record { place = 0; pen = start_pen x.writing }) 0 n) e
+          (walking_start x.bytes.now x.writing x.out.now x.lines.now),
+      refl,
+    )
 
 -- a window begins where the clauses before it end
 here : (c : In-loop-start) → let x = c.args in let l = c.loop-start in
@@ -75,13 +74,27 @@ first_clauses-found-requires c =
     (here (goal.at.first_clauses-found-requires c).In-loop-start) (sized (goal.at.first_clauses-found-requires c).After-window_size-size) _
     c.loop-start.invariant.1
 
+-- the part of the first clauses that the window has
+part-long : (c : After-first_clauses-found) → length (take c.window_size-size.result c.first_clauses-found.result.firsts) ≡ c.window_size-size.result
+part-long c =
+    let size = sized (goal.at.After-first_clauses-found c).After-window_size-size in
+    length-take-le c.window_size-size.result c.first_clauses-found.result.firsts (omega (arith, size.few, firsts-long c))
+
+pub slice_bounds-put_window-end : goal.slice_bounds-put_window-end
+slice_bounds-put_window-end c =
+    sym (part-long (goal.at.slice_bounds-put_window-end c).After-first_clauses-found)
+
 pub put_window-walked-requires : goal.put_window-walked-requires
 put_window-walked-requires c =
+    let x = c.args in
     let size = sized (goal.at.put_window-walked-requires c).After-window_size-size in
     let found = (goal.at.put_window-walked-requires c).After-first_clauses-found in
-    walking_passable (small (goal.at.put_window-walked-requires c).At-loop-start) c.requires
+    subst⁻¹ (λ (n : ℕ). Passable x.bytes.now c.loop-start.start c.loop-start.walked.place n
+    (take c.window_size-size.result c.first_clauses-found.result.firsts) c.loop-start.out c.loop-start.lines
+    c.first_clauses-found.new.row c.loop-start.walked.pen) (part-long found)
+    (walking_passable (small (goal.at.put_window-walked-requires c).At-loop-start) c.requires
     (here (goal.at.put_window-walked-requires c).In-loop-start) size _ (row-found found)
-    c.first_clauses-found.result.firsts (firsts-long found) c.first_clauses-found.ensures.0.firsts_are
+    c.first_clauses-found.result.firsts (firsts-long found) c.first_clauses-found.ensures.0.firsts_are)
 
 -- the clauses of a window were put
 after : {size : ℕ} {o m : List ℕ} {next : Walked} (c : At-loop-start) → c.loop-start.start < c.args.count
@@ -101,7 +114,10 @@ after {size} {o} {m} {next} c h s p seed few =
 pub loop-start-preserved : goal.loop-start-preserved
 loop-start-preserved c = (
   after (goal.at.loop-start-preserved c).At-loop-start c.loop-start-test.true
-      (sized (goal.at.loop-start-preserved c).After-window_size-size) c.put_window-walked.ensures.0 c.first_clauses-found.result.seed
+      (sized (goal.at.loop-start-preserved c).After-window_size-size)
+      (subst (λ (n : ℕ). Passed c.args.bytes.now c.loop-start.start n c.loop-start.out c.loop-start.lines c.loop-start.walked.pen
+      c.put_window-walked.new.out c.put_window-walked.new.lines c.put_window-walked.result)
+      (part-long (goal.at.loop-start-preserved c).After-first_clauses-found) c.put_window-walked.ensures.0) c.first_clauses-found.result.seed
       c.first_clauses-found.ensures.0.seed_few,
   c.put_window-walked.ensures.1 ∙ row-found (goal.at.loop-start-preserved c).After-first_clauses-found,
 )
@@ -115,8 +131,13 @@ returns c =
     elim c.loop-start-test.branch [
       | else-loop-start-test w ↦ let past = w.loop-start-test.false in
           rw (w.out-is, w.lines-is, w.walked-is) (walking_end (small at) c.requires l.invariant.0 (omega (arith, past)))
-      | then-loop-start-test+else-count-start-gt1024 w ↦ let done = after at w.loop-start-test.true
-          (window_sized (x.count - l.start) _ w.window_size-size.ensures) w.put_window-walked.ensures.0
+      | then-loop-start-test+else-count-start-gt1024 w ↦
+          let size = window_sized (x.count - l.start) _ w.window_size-size.ensures in
+          let few : w.window_size-size.result ≤ length w.first_clauses-found.result.firsts = omega (arith, size.few) in
+          let long = length-take-le w.window_size-size.result w.first_clauses-found.result.firsts few in
+          let done = after at w.loop-start-test.true size
+          (subst (λ (n : ℕ). Passed x.bytes.now l.start n l.out l.lines l.walked.pen w.put_window-walked.new.out w.put_window-walked.new.lines
+          w.put_window-walked.result) long w.put_window-walked.ensures.0)
           w.first_clauses-found.result.seed w.first_clauses-found.ensures.0.seed_few in
           rw (w.out-is, w.lines-is, w.walked-is) (walking_end (small at) c.requires done (omega (arith, w)))
     ]

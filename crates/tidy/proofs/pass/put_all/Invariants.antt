@@ -8,4 +8,3 @@ use Rattle.tidy.proofs.pass.put_all.Given as goal
 
 abbrev pub invariant-loop-start : goal.invariant-loop-start
 invariant-loop-start l = Walking l.bytes l.writing l.initial.out l.initial.lines l.out l.lines l.walked l.seed (min l.start l.count) × (l.row ≡ no_literals)
-
