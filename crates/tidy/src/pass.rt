@@ -24,22 +24,21 @@ fn put_window(
     bytes: &[u8],
     start: u32,
     place: usize,
-    count: usize,
     firsts: &[u32],
     out: &mut [u8],
     lines: &mut [u8],
     row: &mut [u8],
     pen: Pen,
 ) -> Walked
-    requires { Passable bytes.now start place count firsts.now out.old lines.old row.old pen }
-    ensures { Passed bytes.now start count out.old lines.old pen out.new lines.new result
+    requires { Passable bytes.now start place (length firsts.now) firsts.now out.old lines.old row.old pen }
+    ensures { Passed bytes.now start (length firsts.now) out.old lines.old pen out.new lines.new result
         × (row.new ≡ row.old) }
 {
     let mut drawn = pen;
     let mut at = place;
-    for i in 0..count {
+    for (i, &first) in firsts.iter().enumerate() {
         let number = start + i as u32;
-        drawn = put_fate(bytes, at, number, firsts[i], out, lines, row, drawn);
+        drawn = put_fate(bytes, at, number, first, out, lines, row, drawn);
         at = end_of(bytes, at) + 1;
     }
     Walked {
@@ -81,8 +80,7 @@ pub fn put_all(
         },
     };
     let mut seed = 0;
-    let mut start = 0;
-    while start < count {
+    for start in (0..count).step_by(1_024) {
         let size = window_size(count - start);
         let found = first_clauses(bytes, start, walked.place, size, seed, &mut row);
         let firsts = found.firsts;
@@ -91,15 +89,13 @@ pub fn put_all(
             bytes,
             start,
             walked.place,
-            size,
-            &firsts,
+            &firsts[..size],
             out,
             lines,
             &mut row,
             pen,
         );
         seed = found.seed;
-        start += size as u32;
     }
     walked.pen
 }

@@ -1,12 +1,14 @@
 -- A loop that puts window after window: what it knows at each turn. Assumes nothing.
-use mathlib.Core.Path.{◌≡◌, refl, sym, ap, subst, subst⁻¹}
+use mathlib.Core.Path.{◌≡◌, refl, sym, ap, ◌∙◌, subst, subst⁻¹}
 use mathlib.Core.Bool.{Bool, true, false, cond}
 use mathlib.Core.List.{List, [], ◌∷◌}
 use Prim.Native.Nat.{ℕ, ◌+◌, ◌-◌, ◌≤◌, ◌<◌}
 use native.Mathlib.Nat.{zero-add}
 use native.Mathlib.Omega.{arith}
+use Rattle.std.specs.Prelude.{min}
 use lib.Dec.{ltb}
-use lib.ListN.{length}
+use lib.ListN.{length, take}
+use Rattle.std.proofs.lemmas.List.{get_or-take, length-take-le}
 use borrow.Author.Tests.{le-ltb, ltb-true, ltb-false}
 use Rattle.clausal.specs.Clauses.{clauses_bytes}
 use Rattle.clausebytes.specs.Words.{words_of, literal_of, clauses_of, all_within}
@@ -37,13 +39,14 @@ pub record Sized (k size : ℕ) : Type 0 where
   pub few : size ≤ most
   pub within : size ≤ k
   pub some : 0 < k → 0 < size
+  pub least : size ≡ min k most
 
 pub window_sized : (k size : ℕ) → size ≡ cond (ltb k most) k most → Sized k size
 window_sized k size e = subst⁻¹ (Sized k) e (go (ltb k most) refl)
   where
     go : (b : Bool) → ltb k most ≡ b → Sized k (cond b k most)
-    go true f = let h = ltb-true k most f in record { few = omega arith; within = omega arith; some = λ g. g }
-    go false f = let h = ltb-false k most f in record { few = omega arith; within = h; some = λ g. omega arith }
+    go true f = let h = ltb-true k most f in record { few = omega arith; within = omega arith; some = λ g. g; least = omega arith }
+    go false f = let h = ltb-false k most f in record { few = omega arith; within = h; some = λ g. omega arith; least = omega arith }
 
 -- the clauses before number `start` were put
 pub record Walking (bytes : List ℕ) (writing : Bool) (out lines mid left : List ℕ) (walked : Walked) (seed start : ℕ)
@@ -121,9 +124,10 @@ module _ {bytes : List ℕ} {v count : ℕ} {writing : Bool} {out lines : List �
         place_is = w.place_is;
       }
 
+      -- the first clauses of the window stand at the start of a list
       pub walking_passable : (row : List ℕ) → row ≡ no_literals → (firsts : List ℕ) → length firsts ≡ most
           → Firsts bytes start size firsts
-          → Passable bytes start walked.place size firsts mid left row walked.pen
+          → Passable bytes start walked.place size (take size firsts) mid left row walked.pen
       walking_passable row e firsts long are = record {
         ready = ready row e;
         long = bytes-short bytes v small given.right;
@@ -131,8 +135,8 @@ module _ {bytes : List ℕ} {v count : ℕ} {writing : Bool} {out lines : List �
         within = window_within;
         clauses = right.clauses;
         place_is = w.place_is;
-        firsts_size = omega (arith, s.few);
-        firsts_are = are;
+        firsts_size = omega (arith, length-take-le size firsts (omega (arith, s.few, long)));
+        firsts_are = λ i h. get_or-take size firsts i 0 h ∙ are i h;
         drawable = subst (λ (n : ℕ). DrawableIn (clauses_of bytes) n size mid left walked.pen) (zero-add start)
             (drawable-next (clauses_of bytes) 0 start size (part_room (start + size) window_within) w.drawn-is);
       }
