@@ -4,8 +4,10 @@ use mathlib.Core.Path.{◌≡◌, refl}
 use mathlib.Core.List.{List, [], ◌∷◌}
 use Prim.Native.Nat.{ℕ}
 use lib.ListN.{replicate}
-use Rattle.answer.specs.declared.Answer.{Answer}
-use Rattle.answer.specs.declared.Answer.TheVariants.{Accepted, Room, SatText}
+use Rattle.answer.specs.Answers.{Answer}
+use Rattle.answer.specs.Answers.{accepted_with}
+use Rattle.std.specs.Prelude.{Err}
+use Rattle.answer.specs.declared.Refusal.TheVariants.{Room, SatText}
 use Rattle.satfile.specs.Trees.{Tree, And, Or, Symbol, Empty, Not, Joined, records_from, table_of}
 use Rattle.satfile.specs.Inner.Reads.{Out, Read, Bad, skipped, digits_from, begin_in, group_from, formula_in, whole_in}
 use Rattle.satfile.specs.Inner.Calls.{read_call}
@@ -183,31 +185,31 @@ abbrev answers : List ℕ → Answer
 answers t = (read_call t (replicate 5 7)).answer
 
 -- options and nodes are reported: `p sat 3\n2`
-accepted : answers (112 ∷ 32 ∷ 115 ∷ 97 ∷ 116 ∷ 32 ∷ 51 ∷ 10 ∷ 50 ∷ []) ≡ Accepted 3 1
+accepted : answers (112 ∷ 32 ∷ 115 ∷ 97 ∷ 116 ∷ 32 ∷ 51 ∷ 10 ∷ 50 ∷ []) ≡ accepted_with 3 1
 unfolding skipped digits_from begin_in group_from formula_in records_from
 accepted = refl
 
 -- a table of two nodes has no room: `p sat 3\n-2`
-too_long : answers (112 ∷ 32 ∷ 115 ∷ 97 ∷ 116 ∷ 32 ∷ 51 ∷ 10 ∷ 45 ∷ 50 ∷ []) ≡ Room
+too_long : answers (112 ∷ 32 ∷ 115 ∷ 97 ∷ 116 ∷ 32 ∷ 51 ∷ 10 ∷ 45 ∷ 50 ∷ []) ≡ Err Room
 unfolding skipped digits_from begin_in group_from formula_in records_from
 too_long = refl
 
 -- the word of the other format: `p cnf 3\n2`
-other_word : answers (112 ∷ 32 ∷ 99 ∷ 110 ∷ 102 ∷ 32 ∷ 51 ∷ 10 ∷ 50 ∷ []) ≡ SatText 2
+other_word : answers (112 ∷ 32 ∷ 99 ∷ 110 ∷ 102 ∷ 32 ∷ 51 ∷ 10 ∷ 50 ∷ []) ≡ Err (SatText 2)
 unfolding skipped digits_from begin_in group_from formula_in records_from
 other_word = refl
 
 -- options over their limit: `p sat 32001\n1`
-options-over : answers (112 ∷ 32 ∷ 115 ∷ 97 ∷ 116 ∷ 32 ∷ 51 ∷ 50 ∷ 48 ∷ 48 ∷ 49 ∷ 10 ∷ 49 ∷ []) ≡ SatText 10
+options-over : answers (112 ∷ 32 ∷ 115 ∷ 97 ∷ 116 ∷ 32 ∷ 51 ∷ 50 ∷ 48 ∷ 48 ∷ 49 ∷ 10 ∷ 49 ∷ []) ≡ Err (SatText 10)
 unfolding skipped digits_from begin_in group_from formula_in records_from
 options-over = refl
 
 -- a comment stands before the header: `p sat 3\nc\n1`
-comment-behind : answers (112 ∷ 32 ∷ 115 ∷ 97 ∷ 116 ∷ 32 ∷ 51 ∷ 10 ∷ 99 ∷ 10 ∷ 49 ∷ []) ≡ SatText 8
+comment-behind : answers (112 ∷ 32 ∷ 115 ∷ 97 ∷ 116 ∷ 32 ∷ 51 ∷ 10 ∷ 99 ∷ 10 ∷ 49 ∷ []) ≡ Err (SatText 8)
 unfolding skipped digits_from begin_in group_from formula_in records_from
 comment-behind = refl
 
 -- the place counts from the first byte of the text: `c\np sat 3\n*(1 4)`
-wrong-inside : answers (99 ∷ 10 ∷ 112 ∷ 32 ∷ 115 ∷ 97 ∷ 116 ∷ 32 ∷ 51 ∷ 10 ∷ 42 ∷ 40 ∷ 49 ∷ 32 ∷ 52 ∷ 41 ∷ []) ≡ SatText 14
+wrong-inside : answers (99 ∷ 10 ∷ 112 ∷ 32 ∷ 115 ∷ 97 ∷ 116 ∷ 32 ∷ 51 ∷ 10 ∷ 42 ∷ 40 ∷ 49 ∷ 32 ∷ 52 ∷ 41 ∷ []) ≡ Err (SatText 14)
 unfolding skipped digits_from begin_in group_from formula_in records_from
 wrong-inside = refl

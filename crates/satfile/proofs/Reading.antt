@@ -14,7 +14,8 @@ use Rattle.header.specs.Heads.{Headed}
 use Rattle.header.specs.Inner.Heads.{is_done, head_of}
 use Rattle.header.proofs.Headed.{head_continues, head_refuses, head_longest, head_dies}
 use Rattle.header.proofs.Laws.Readers.{longest-same}
-use Rattle.answer.specs.declared.Answer.TheVariants as answer
+use Rattle.std.specs.Prelude.{Err}
+use Rattle.answer.specs.declared.Refusal.TheVariants.{SatText}
 use Rattle.satfile.specs.Trees.{Tree}
 use Rattle.satfile.specs.Texts.{sat, Body, Text, Accepted}
 use Rattle.satfile.specs.Inner.Reads.{Out, Read, Bad, whole_in}
@@ -132,15 +133,15 @@ place-longest x = go (is_done (head_of sat x).phase) refl
 
 -- any other text is refused with the length of its longest good beginning, and the buffer is left alone
 pub refuses : (x buffer : List ℕ) (k : ℕ) → (Accepted x → ⊥) → Longest Accepted x k
-    → read_call x buffer ≡ record { answer = answer.SatText k; output = buffer }
+    → read_call x buffer ≡ record { answer = Err (SatText k); output = buffer }
 refuses x buffer k n p = go (is_done (head_of sat x).phase) refl (body_in x) refl
   where
-    same : (l : ℕ) → Longest Accepted x l → read_call x buffer ≡ record { answer = answer.SatText l; output = buffer }
-        → read_call x buffer ≡ record { answer = answer.SatText k; output = buffer }
-    same l q e = e ∙ ap (λ (y : ℕ). record { answer = answer.SatText y; output = buffer }) (one_place Accepted x l k q p)
+    same : (l : ℕ) → Longest Accepted x l → read_call x buffer ≡ record { answer = Err (SatText l); output = buffer }
+        → read_call x buffer ≡ record { answer = Err (SatText k); output = buffer }
+    same l q e = e ∙ ap (λ (y : ℕ). record { answer = Err (SatText y); output = buffer }) (one_place Accepted x l k q p)
 
     go : (b : Bool) → is_done (head_of sat x).phase ≡ b → (o : Out Tree) → body_in x ≡ o
-        → read_call x buffer ≡ record { answer = answer.SatText k; output = buffer }
+        → read_call x buffer ≡ record { answer = Err (SatText k); output = buffer }
     go false e o f = same (head_of sat x).place (longest_head x e) (rw e)
     go true e (Read t r) f = absurd (n ((head_of sat x).value, t, text_of_body x e t r f))
     go true e (Bad m) f =

@@ -10,7 +10,7 @@ use native.Mathlib.Omega.{arith}
 use lib.ListN.{length}
 use borrow.Author.Tests.{ne_eqb, eq-eqb, le-ltb}
 use Rattle.laws.specs.Lists.{Every, none, more}
-use Rattle.answer.specs.declared.Answer.TheVariants.{Accepted}
+use Rattle.answer.specs.Answers.{accepted_with}
 use Rattle.header.specs.Inner.Heads.{is_done, head_of}
 use Rattle.header.proofs.Headed.{head_within, head_continues, head_refuses}
 use Rattle.formula.specs.Tables.{node_bytes, most_nodes, most_table, most_options, node_at, node_count, nodes_of}
@@ -85,7 +85,7 @@ module _ {v : ℕ} {t : Tree} (w : Within v t) (few : v ≤ most_options) (fits 
       rw (some, even, le-ltb most_table (length (table_of t)) (omega arith))
 
   -- the table can be handed to every call that takes one
-  pub table-checked : checked (table_of t) v ≡ Accepted 0 0
+  pub table-checked : checked (table_of t) v ≡ accepted_with 0 0
   table-checked =
       accepted_of_no_fault (table_of t) v right-length few
       (λ k h. no_fault_of_holds (node_at (table_of t)) w 0 holds k (omega arith) (omega (arith, table-nodes t)))
@@ -98,7 +98,7 @@ module _ {v : ℕ} {t : Tree} (w : Within v t) (few : v ≤ most_options) (fits 
 
 -- the same of a text
 module _ {v : ℕ} {t : Tree} {x : List ℕ} (h : Text v t x) (fits : size_of t ≤ most_nodes) where
-  pub text_checked : checked (table_of t) v ≡ Accepted 0 0
+  pub text_checked : checked (table_of t) v ≡ accepted_with 0 0
   text_checked = let w = symbols-within h in table-checked w.0 w.1 fits
 
   pub text_true : (ρ : ℕ → Bool) → formula_true ρ (nodes_of (table_of t)) ≡ tree_true ρ t

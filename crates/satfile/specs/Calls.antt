@@ -2,7 +2,9 @@
 -- Assumes nothing: these are definitions.
 use Rattle.std.specs.Prelude.{cond, List, ℕ, ltb}
 use Rattle.answer.specs.Answers.{Wrote, stored}
-use Rattle.answer.specs.declared.Answer.TheVariants.{Accepted, Nodes}
+use Rattle.answer.specs.Answers.{accepted_with}
+use Rattle.std.specs.Prelude.{Err}
+use Rattle.answer.specs.declared.Refusal.TheVariants.{Nodes}
 use Rattle.formula.specs.Tables.{most_nodes}
 use Rattle.satfile.specs.Trees.{Tree, size_of, table_of}
 
@@ -10,5 +12,5 @@ use Rattle.satfile.specs.Trees.{Tree, size_of, table_of}
 abbrev pub tree_call : ℕ → Tree → List ℕ → Wrote (List ℕ)
 tree_call v t buffer =
     cond (ltb most_nodes (size_of t))
-    (record { answer = Nodes; output = buffer })
-    (stored (Accepted v (size_of t)) (table_of t) buffer)
+    (record { answer = Err Nodes; output = buffer })
+    (stored (accepted_with v (size_of t)) (table_of t) buffer)

@@ -1,7 +1,7 @@
 -- R21.1 to R21.8: the texts that are accepted, by productions, and the formula that each stands for.
 -- A family says what may stand in a place of a text: `l` is such a thing and then `r`.
 -- Assumes nothing: these are definitions.
-use Rattle.std.specs.Prelude.{◌≡◌, Bool, true, false, List, [], ◌∷◌, ◌++◌, ℕ, zero, suc, ◌≤◌}
+use Rattle.std.specs.Prelude.{◌≡◌, None, Bool, true, false, List, [], ◌∷◌, ◌++◌, ℕ, zero, suc, ◌≤◌}
 use Rattle.text.specs.Texts.{decimal}
 use Rattle.header.specs.Heads.{White, Headed}
 use Rattle.header.specs.declared.Form.{Form}
@@ -10,7 +10,7 @@ use Rattle.satfile.specs.Trees.{Tree, Symbol, Not, And, Or, folded}
 
 -- R21.1: the header has `sat` and V
 abbrev pub sat : Form
-sat = record { first = 115; second = 97; third = 116; pair = false; before = 0; last = most_options }
+sat = record { first = 115; second = 97; third = 116; before = None; last = most_options }
 
 -- R21.7: any white space
 pub data Spaces (r : List ℕ) : List ℕ → Type 0 where

@@ -4,15 +4,21 @@ ghost use Rattle.satfile.specs.Inner.Reads.{fills, negates, digits_from, number_
 ghost use Rattle.satfile.specs.Inner.Parts.{Skipped, TellsNumber, TellsBegin, leaf_nodes, leaf_bytes};
 
 use classes::is_space;
-use text::number::{Number, digit_of, grown, is_digit};
+use text::number::{digit_of, grown, is_digit};
 
-const OPEN: u8 = 40;
+const OPEN: u8 = b'(';
 
-const STAR: u8 = 42;
+const STAR: u8 = b'*';
 
-const PLUS: u8 = 43;
+const PLUS: u8 = b'+';
 
-const MINUS: u8 = 45;
+const MINUS: u8 = b'-';
+
+// No accepted text goes on so from here.
+#[derive(Clone, Copy)]
+pub struct Wrong {
+    pub place: usize,
+}
 
 // What formulas stand in together.
 #[derive(Clone, Copy)]
@@ -43,19 +49,13 @@ pub enum Lead {
         group: Group,
         at: usize,
     },
-    // No accepted text goes on so from here.
-    Wrong {
-        place: usize,
-    },
 }
 
-// A number that is read.
+// A number that was read, and the place behind it.
 #[derive(Clone, Copy)]
-pub enum Numeral {
-    // Its value, and the place behind it.
-    Is { value: u32, at: usize },
-    // No accepted text goes on so from here.
-    Wrong { place: usize },
+pub struct Numeral {
+    pub value: u32,
+    pub at: usize,
 }
 
 // The place behind white space.
@@ -63,52 +63,48 @@ pub fn skip(text: &[u8], at: usize) -> usize
     requires { at ≤ length text.now }
     ensures { Skipped text.now at result }
 {
-    let mut i = at;
-    while i < text.len() {
+    for i in at..text.len() {
         if !is_space(text[i]) {
             return i;
         }
-        i += 1;
     }
-    i
+    text.len()
 }
 
 // Reads the further digits of a number.
-fn digits(text: &[u8], at: usize, first: u32, most: u32) -> Numeral
+fn digits(text: &[u8], at: usize, first: u32, most: u32) -> Result<Numeral, Wrong>
     requires { at ≤ length text.now }
     ensures { TellsNumber text.now at (digits_from most first (drop at text.now)) result }
 {
     let mut value = first;
-    let mut i = at;
-    while i < text.len() {
+    for i in at..text.len() {
         let byte = text[i];
         if !is_digit(byte) {
-            return Numeral::Is { value, at: i };
+            return Ok(Numeral { value, at: i });
         }
-        let Number::Is(more) = grown(true, value, digit_of(byte), most) else {
-            return Numeral::Wrong { place: i };
+        let Some(more) = grown(true, value, digit_of(byte), most) else {
+            return Err(Wrong { place: i });
         };
         value = more;
-        i += 1;
     }
-    Numeral::Is { value, at: i }
+    Ok(Numeral {
+        value,
+        at: text.len(),
+    })
 }
 
 // Reads a number from 1 on.
-fn number(text: &[u8], at: usize, most: u32) -> Numeral
+fn number(text: &[u8], at: usize, most: u32) -> Result<Numeral, Wrong>
     requires { at < length text.now }
     ensures { TellsNumber text.now (at + 1) (number_in most (drop at text.now)) result }
 {
     let byte = text[at];
-    if byte < 49 {
-        return Numeral::Wrong { place: at };
-    }
-    if 57 < byte {
-        return Numeral::Wrong { place: at };
+    if !matches!(byte, b'1'..=b'9') {
+        return Err(Wrong { place: at });
     }
     let first = digit_of(byte);
     if most < first {
-        return Numeral::Wrong { place: at };
+        return Err(Wrong { place: at });
     }
     digits(text, at + 1, first, most)
 }
@@ -117,103 +113,73 @@ fn number(text: &[u8], at: usize, most: u32) -> Numeral
 fn is_filled(options: u32, depth: u32) -> bool
     ensures { result ≡ fills options depth }
 {
-    if depth == 0 {
-        return false;
-    }
-    if options == 0 {
-        return depth != 1;
-    }
-    true
+    depth != 0 && (options != 0 || depth != 1)
 }
 
 // Whether a number or such a formula can stand behind a `-`.
 fn is_negated(options: u32, depth: u32) -> bool
     ensures { result ≡ negates options depth }
 {
-    if options == 0 {
-        return is_filled(options, depth);
-    }
-    true
+    options != 0 || is_filled(options, depth)
 }
 
 // The group of one formula, negated or not.
 fn one_of(negated: bool) -> Group
     ensures { result ≡ one_of negated }
 {
-    if negated {
-        return Group::Not;
-    }
-    Group::One
+    if negated { Group::Not } else { Group::One }
 }
 
 // A number, or the parenthesis of one formula; negated or not.
-fn operand(text: &[u8], at: usize, depth: u32, options: u32, negated: bool) -> Lead
+fn operand(text: &[u8], at: usize, depth: u32, options: u32, negated: bool) -> Result<Lead, Wrong>
     requires { at ≤ length text.now }
     ensures { TellsBegin (leaf_bytes negated) text.now at depth
         (operand_in options depth negated (drop at text.now)) result }
 {
     if text.len() <= at {
-        return Lead::Wrong { place: at };
+        return Err(Wrong { place: at });
     }
     if text[at] != OPEN {
-        return match number(text, at, options) {
-            Numeral::Is { value, at: end } => Lead::Symbol {
-                value,
-                negated,
-                at: end,
-            },
-            Numeral::Wrong { place } => Lead::Wrong { place },
-        };
+        let numeral = number(text, at, options)?;
+        return Ok(Lead::Symbol {
+            value: numeral.value,
+            negated,
+            at: numeral.at,
+        });
     }
     if !is_filled(options, depth) {
-        return Lead::Wrong { place: at };
+        return Err(Wrong { place: at });
     }
-    Lead::Open {
+    Ok(Lead::Open {
         group: one_of(negated),
         at: at + 1,
-    }
+    })
 }
 
 // The parenthesis of a list, behind its `*` or `+`.
-fn list(text: &[u8], at: usize, depth: u32, group: Group) -> Lead
+fn list(text: &[u8], at: usize, depth: u32, group: Group) -> Result<Lead, Wrong>
     requires { (at ≤ length text.now) × (0 < depth) }
     ensures { TellsBegin (leaf_bytes true) text.now at depth (open_in group (drop at text.now)) result }
 {
-    if text.len() <= at {
-        return Lead::Wrong { place: at };
+    if text.len() <= at || text[at] != OPEN {
+        return Err(Wrong { place: at });
     }
-    if text[at] != OPEN {
-        return Lead::Wrong { place: at };
-    }
-    Lead::Open { group, at: at + 1 }
+    Ok(Lead::Open { group, at: at + 1 })
 }
 
 // How the formula from a place on begins, where `depth` parentheses may still be opened.
-pub fn begin(text: &[u8], at: usize, depth: u32, options: u32) -> Lead
+pub fn begin(text: &[u8], at: usize, depth: u32, options: u32) -> Result<Lead, Wrong>
     requires { at ≤ length text.now }
     ensures { TellsBegin leaf_nodes text.now at depth (begin_in options depth (drop at text.now)) result }
 {
     if text.len() <= at {
-        return Lead::Wrong { place: at };
+        return Err(Wrong { place: at });
     }
-    let byte = text[at];
-    if byte == STAR {
-        if depth == 0 {
-            return Lead::Wrong { place: at };
-        }
-        return list(text, at + 1, depth, Group::And);
+    match text[at] {
+        STAR if depth != 0 => list(text, at + 1, depth, Group::And),
+        PLUS if depth != 0 => list(text, at + 1, depth, Group::Or),
+        MINUS if is_negated(options, depth) => operand(text, at + 1, depth, options, true),
+        STAR | PLUS | MINUS => Err(Wrong { place: at }),
+        _ => operand(text, at, depth, options, false),
     }
-    if byte == PLUS {
-        if depth == 0 {
-            return Lead::Wrong { place: at };
-        }
-        return list(text, at + 1, depth, Group::Or);
-    }
-    if byte == MINUS {
-        if !is_negated(options, depth) {
-            return Lead::Wrong { place: at };
-        }
-        return operand(text, at + 1, depth, options, true);
-    }
-    operand(text, at, depth, options, false)
 }

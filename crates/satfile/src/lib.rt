@@ -6,28 +6,37 @@ mod nested;
 mod table;
 
 ghost use Rattle.std.specs.Prelude.{◌≡◌};
+ghost use Rattle.answer.specs.declared.Refusal.TheVariants.{SatText};
 ghost use Rattle.satfile.specs.Texts.{sat};
 ghost use Rattle.satfile.specs.Inner.Calls.{read_call};
 
-use answer::Answer;
+use answer::{Accepted, Answer, Refusal};
 use formula::node::{MOST_NODES, MOST_OPTIONS, NODE_BYTES};
 use header::Form;
-use lead::Group;
-use nested::{Part, list};
+use lead::{Group, Wrong};
+use nested::list;
 
 // The most parentheses that may be open at once.
 const MOST_OPEN: u32 = 64;
+
+impl From<Wrong> for Refusal {
+    ghost from_gives = { λ w r. r ≡ SatText w.place };
+
+    // A text that is wrong from a place on is refused with that place.
+    fn from(wrong: Wrong) -> Refusal {
+        Refusal::SatText { place: wrong.place }
+    }
+}
 
 // The form of the header: `sat` and the options.
 fn sat_form() -> Form
     ensures { result ≡ sat }
 {
     Form {
-        first: 115,
-        second: 97,
-        third: 116,
-        pair: false,
-        before: 0,
+        first: b's',
+        second: b'a',
+        third: b't',
+        before: None,
         last: MOST_OPTIONS,
     }
 }
@@ -41,11 +50,11 @@ pub fn read(text: &[u8], table: &mut [u8]) -> Answer
     let head = header::read(&classes, text, sat_form());
     let from = head.place;
     if !head.is_done() {
-        return Answer::SatText { place: from };
+        return Err(Refusal::SatText { place: from });
     }
     let options = head.value;
     let mut nowhere = [0u8; 1];
-    let first = list(
+    let whole = list(
         text,
         from,
         0,
@@ -53,21 +62,17 @@ pub fn read(text: &[u8], table: &mut [u8]) -> Answer
         options,
         Group::Whole,
         &mut nowhere,
-    );
-    match first {
-        Part::Wrong { place } => Answer::SatText { place },
-        Part::Done { at: _, next: nodes } => {
-            if nodes > MOST_NODES {
-                return Answer::Nodes;
-            }
-            if table.len() < NODE_BYTES * nodes {
-                return Answer::Room;
-            }
-            list(text, from, 0, MOST_OPEN, options, Group::Whole, table);
-            Answer::Accepted {
-                first: options,
-                second: nodes as u32,
-            }
-        }
+    )?;
+    let nodes = whole.next;
+    if nodes > MOST_NODES {
+        return Err(Refusal::Nodes);
     }
+    if table.len() < NODE_BYTES * nodes {
+        return Err(Refusal::Room);
+    }
+    list(text, from, 0, MOST_OPEN, options, Group::Whole, table)?;
+    Ok(Accepted {
+        first: options,
+        second: nodes as u32,
+    })
 }

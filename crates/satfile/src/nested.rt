@@ -3,45 +3,31 @@ ghost use Rattle.std.specs.Prelude.{cond, not, ◌||◌, ◌≡◌, ◌+◌, ◌
 ghost use Rattle.satfile.specs.Inner.Reads.{is_many, is_whole, ends_at, is_parted, formula_in, list_in};
 ghost use Rattle.satfile.specs.Inner.Parts.{Tells, Readable, Passing};
 
-use crate::lead::{Group, Lead, begin, skip};
+use crate::lead::{Group, Lead, Wrong, begin, skip};
 use crate::table::{end, fold, leaf};
 use classes::is_space;
 
-const CLOSE: u8 = 41;
+const CLOSE: u8 = b')';
 
-// A part of a text that is read.
+// A part of a text that was read: the place behind it, and the number of the next node.
 #[derive(Clone, Copy)]
-pub enum Part {
-    // The place behind it, and the number of the next node.
-    Done { at: usize, next: usize },
-    // No accepted text goes on so from here.
-    Wrong { place: usize },
+pub struct Part {
+    pub at: usize,
+    pub next: usize,
 }
 
 // Whether a group may have any number of members, and not just one.
 fn is_many(group: Group) -> bool
     ensures { result ≡ is_many group }
 {
-    match group {
-        Group::And => true,
-        Group::Or => true,
-        Group::One => false,
-        Group::Not => false,
-        Group::Whole => false,
-    }
+    matches!(group, Group::And | Group::Or)
 }
 
 // Whether a group is the text's, and ends where the text does.
 fn is_whole(group: Group) -> bool
     ensures { result ≡ is_whole group }
 {
-    match group {
-        Group::And => false,
-        Group::Or => false,
-        Group::One => false,
-        Group::Not => false,
-        Group::Whole => true,
-    }
+    matches!(group, Group::Whole)
 }
 
 // Whether a group ends at a place.
@@ -49,14 +35,10 @@ fn is_end(text: &[u8], at: usize, group: Group) -> bool
     requires { at ≤ length text.now }
     ensures { result ≡ ends_at group (drop at text.now) }
 {
-    let whole = is_whole(group);
     if text.len() <= at {
-        return whole;
+        return is_whole(group);
     }
-    if whole {
-        return false;
-    }
-    text[at] == CLOSE
+    !is_whole(group) && text[at] == CLOSE
 }
 
 // Whether a member may end before a place: what follows parts it from the next one, or ends the group or the text.
@@ -64,34 +46,21 @@ fn is_parted(text: &[u8], at: usize) -> bool
     requires { at ≤ length text.now }
     ensures { result ≡ is_parted (drop at text.now) }
 {
-    if text.len() <= at {
-        return true;
-    }
-    let byte = text[at];
-    if byte == CLOSE {
-        return true;
-    }
-    is_space(byte)
+    text.len() <= at || text[at] == CLOSE || is_space(text[at])
 }
 
 // Whether a group takes one more member: a list does, and any other group its first.
 fn is_open(many: bool, next: usize, behind: usize) -> bool
     ensures { result ≡ (many || eqb behind next) }
 {
-    if many {
-        return true;
-    }
-    behind == next
+    many || behind == next
 }
 
 // Whether a group has all its members: a list does, and any other group behind its first.
 fn is_full(many: bool, next: usize, behind: usize) -> bool
     ensures { result ≡ (many || not (eqb behind next)) }
 {
-    if many {
-        return true;
-    }
-    behind != next
+    many || behind != next
 }
 
 // The place behind the end of a group.
@@ -99,28 +68,32 @@ fn past(group: Group, at: usize) -> usize
     requires { Passing group at }
     ensures { result ≡ cond (is_whole group) at (at + 1) }
 {
-    if is_whole(group) {
-        return at;
-    }
-    at + 1
+    if is_whole(group) { at } else { at + 1 }
 }
 
 // Reads a formula, where `depth` parentheses may still be opened.
 #[cycle(formula_list)]
-fn formula(text: &[u8], at: usize, next: usize, depth: u32, options: u32, table: &mut [u8]) -> Part
+fn formula(
+    text: &[u8],
+    at: usize,
+    next: usize,
+    depth: u32,
+    options: u32,
+    table: &mut [u8],
+) -> Result<Part, Wrong>
     requires { Readable text.now at next }
     ensures { Tells text.now table.old at next (formula_in options depth (drop at text.now)) result
         table.new }
 {
-    match begin(text, at, depth, options) {
+    match begin(text, at, depth, options)? {
         Lead::Symbol {
             value,
             negated,
             at: end,
-        } => Part::Done {
+        } => Ok(Part {
             at: end,
             next: leaf(table, next, value, negated),
-        },
+        }),
         Lead::Open { group, at: inside } => list(
             text,
             inside,
@@ -130,7 +103,6 @@ fn formula(text: &[u8], at: usize, next: usize, depth: u32, options: u32, table:
             group,
             table,
         ),
-        Lead::Wrong { place } => Part::Wrong { place },
     }
 }
 
@@ -144,7 +116,7 @@ pub fn list(
     options: u32,
     group: Group,
     table: &mut [u8],
-) -> Part
+) -> Result<Part, Wrong>
     requires { Readable text.now at next }
     ensures { Tells text.now table.old at next (list_in options depth group (drop at text.now)) result
         table.new }
@@ -154,28 +126,21 @@ pub fn list(
     let mut behind = next;
     while !is_end(text, i, group) {
         if !is_open(many, next, behind) {
-            return Part::Wrong { place: i };
+            return Err(Wrong { place: i });
         }
-        match formula(text, i, behind, depth, options, table) {
-            Part::Done {
-                at: member,
-                next: after,
-            } => {
-                if !is_parted(text, member) {
-                    return Part::Wrong { place: member };
-                }
-                behind = fold(table, group, next, behind, after);
-                i = skip(text, member);
-            }
-            Part::Wrong { place } => return Part::Wrong { place },
+        let member = formula(text, i, behind, depth, options, table)?;
+        if !is_parted(text, member.at) {
+            return Err(Wrong { place: member.at });
         }
+        behind = fold(table, group, next, behind, member.next);
+        i = skip(text, member.at);
     }
     if !is_full(many, next, behind) {
-        return Part::Wrong { place: i };
+        return Err(Wrong { place: i });
     }
     let after = past(group, i);
-    Part::Done {
+    Ok(Part {
         at: after,
         next: end(table, group, next, behind),
-    }
+    })
 }

@@ -4,30 +4,18 @@ ghost use Rattle.formula.specs.Tables.{node_record};
 ghost use Rattle.satfile.specs.Trees.{join_kind, records_from};
 ghost use Rattle.satfile.specs.Inner.Reads.{leaf_of, join_of};
 ghost use Rattle.satfile.specs.Inner.Parts.{leaf_nodes};
-ghost use Rattle.satfile.specs.Inner.Stores.{Adds, Roomy, Folding, fold_records, fold_nodes, empty_records, empty_nodes, end_records};
+ghost use Rattle.satfile.specs.Inner.Stores.{kind_number, Adds, Roomy, Folding, fold_records, fold_nodes, empty_records, empty_nodes, end_records};
 ghost use Rattle.satfile.specs.Inner.Stores.{end_nodes, Ending};
 
 use crate::lead::Group;
-use formula::node::{NODE_BYTES, put_node};
-
-const FALSE: u8 = 0;
-
-const TRUE: u8 = 1;
-
-const SYMBOL: u8 = 2;
-
-const NOT: u8 = 3;
-
-const AND: u8 = 4;
-
-const OR: u8 = 5;
+use formula::node::{Kind, NODE_BYTES, put_node};
 
 // Stores node i, where the table has room for it.
-fn put(table: &mut [u8], i: usize, kind: u8, a: usize, b: usize)
-    ensures { Adds (node_record kind a b) 1 table.old i (i + 1) table.new }
+fn put(table: &mut [u8], i: usize, kind: Kind, a: usize, b: usize)
+    ensures { Adds (node_record (kind_number kind) a b) 1 table.old i (i + 1) table.new }
 {
     if i < table.len() / NODE_BYTES {
-        put_node(table, NODE_BYTES * i, kind, a, b);
+        put_node(table, NODE_BYTES * i, kind as u8, a, b);
     }
 }
 
@@ -36,24 +24,21 @@ pub fn leaf(table: &mut [u8], next: usize, value: u32, negated: bool) -> usize
     requires { Roomy next (leaf_nodes negated) }
     ensures { Adds (records_from next (leaf_of value negated)) (leaf_nodes negated) table.old next result table.new }
 {
-    put(table, next, SYMBOL, value as usize, 0);
+    put(table, next, Kind::Symbol, value as usize, 0);
     if !negated {
         return next + 1;
     }
-    put(table, next + 1, NOT, next, 0);
+    put(table, next + 1, Kind::Not, next, 0);
     next + 2
 }
 
 // The kind of the node that joins two members.
-fn joining(group: Group) -> u8
-    ensures { result ≡ join_kind (join_of group) }
+fn joining(group: Group) -> Kind
+    ensures { kind_number result ≡ join_kind (join_of group) }
 {
     match group {
-        Group::And => AND,
-        Group::Or => OR,
-        Group::One => OR,
-        Group::Not => OR,
-        Group::Whole => OR,
+        Group::And => Kind::And,
+        _ => Kind::Or,
     }
 }
 
@@ -71,9 +56,9 @@ pub fn fold(table: &mut [u8], group: Group, next: usize, behind: usize, after: u
 }
 
 // Stores the constant of an empty list; returns the number of the next node.
-fn empty(table: &mut [u8], next: usize, behind: usize, kind: u8) -> usize
+fn empty(table: &mut [u8], next: usize, behind: usize, kind: Kind) -> usize
     requires { Roomy behind 1 }
-    ensures { Adds (empty_records kind next behind) (empty_nodes next behind) table.old behind result table.new }
+    ensures { Adds (empty_records (kind_number kind) next behind) (empty_nodes next behind) table.old behind result table.new }
 {
     if behind != next {
         return behind;
@@ -88,13 +73,12 @@ pub fn end(table: &mut [u8], group: Group, next: usize, behind: usize) -> usize
     ensures { Adds (end_records group next behind) (end_nodes group next behind) table.old behind result table.new }
 {
     match group {
-        Group::And => empty(table, next, behind, TRUE),
-        Group::Or => empty(table, next, behind, FALSE),
-        Group::One => behind,
+        Group::And => empty(table, next, behind, Kind::True),
+        Group::Or => empty(table, next, behind, Kind::False),
         Group::Not => {
-            put(table, behind, NOT, behind - 1, 0);
+            put(table, behind, Kind::Not, behind - 1, 0);
             behind + 1
         }
-        Group::Whole => behind,
+        Group::One | Group::Whole => behind,
     }
 }

@@ -3,6 +3,7 @@
 use mathlib.Core.Path.{◌≡◌, refl, sym, ap, ◌∙◌, subst}
 use mathlib.Core.Bool.{Bool, true, false}
 use mathlib.Core.List.{List}
+use Rattle.std.specs.Prelude.{Result, Ok, Err}
 use Prim.Native.Nat.{ℕ, zero, suc, ◌+◌, ◌-◌, ◌^◌, ◌<◌}
 use native.Mathlib.Omega.{arith}
 use lib.ListN.{length, drop}
@@ -12,7 +13,7 @@ use Rattle.satfile.specs.Inner.Stores.{Adds, Roomy}
 use Rattle.satfile.specs.Inner.Parts.{ReadTo, OpenTo, leaf_nodes, DoneTo, Tells, Readable}
 use Rattle.satfile.specs.declared.lead.Group.{Group}
 use Rattle.satfile.specs.declared.nested.Part.{Part}
-use Rattle.satfile.specs.declared.nested.Part.TheVariants as part
+use Rattle.satfile.specs.declared.lead.Wrong.{Wrong}
 
 -- a formula that begins with a symbol, with a group, or not at all
 module _ (v d : ℕ) (l : List ℕ) where
@@ -65,9 +66,9 @@ module _ (v d : ℕ) (text : List ℕ) (from at : ℕ) (g : Group) (t : OpenTo t
   pub open_readable : (i : ℕ) → Readable text from i → Readable text at i
   open_readable i r = record { within = t.to.within; few = omega (arith, r.few, t.to.onward) }
 
-  pub open_told : (before after : List ℕ) (i : ℕ) (r : Part) → Tells text before at i (list_in v (d - 1) g (drop at text)) r after
+  pub open_told : (before after : List ℕ) (i : ℕ) (r : Result Part Wrong) → Tells text before at i (list_in v (d - 1) g (drop at text)) r after
       → Tells text before from i (formula_in v d (drop from text)) r after
-  open_told before after i (part.Done end next) x = record {
+  open_told before after i (Ok p) x = record {
     tree = x.tree;
     to = record { out = same ∙ x.to.out; onward = omega (arith, t.to.onward, x.to.onward); within = x.to.within };
     few = omega (arith, t.to.onward, x.few);
@@ -76,7 +77,7 @@ module _ (v d : ℕ) (text : List ℕ) (from at : ℕ) (g : Group) (t : OpenTo t
     where
       same : formula_in v d (drop from text) ≡ list_in v (d - 1) g (drop at text)
       same = formula-open v d (drop from text) (drop at text) g t.deep t.to.out
-  open_told before after i (part.Wrong place) x = record {
+  open_told before after i (Err w) x = record {
     at = record {
       out = formula-open v d (drop from text) (drop at text) g t.deep t.to.out ∙ x.at.out;
       within = x.at.within;

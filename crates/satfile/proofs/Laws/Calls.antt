@@ -1,28 +1,27 @@
 -- What the call gives, by what its two readings tell.
 -- Assumes nothing.
-use mathlib.Core.Path.{◌≡◌, refl, sym, ap, ◌∙◌, subst}
-use mathlib.Core.Bool.{Bool, true, false, cond}
-use mathlib.Core.List.{List, []}
-use Prim.Native.Nat.{ℕ, ◌+◌, ◌*◌, ◌-◌, ◌≤◌, ◌<◌}
+use mathlib.Core.Path.{◌≡◌, sym, ap, ◌∙◌}
+use mathlib.Core.Bool.{true, false}
+use mathlib.Core.List.{List}
+use Prim.Native.Nat.{ℕ, ◌*◌, ◌-◌, ◌≤◌, ◌<◌}
 use native.Mathlib.Omega.{arith}
-use lib.Dec.{ltb}
 use lib.ListN.{length, drop, length-drop}
 use borrow.Author.Tests.{lt-ltb, le-ltb}
 use Rattle.laws.specs.Lists.{splice}
 use Rattle.answer.specs.Answers.{Wrote, stored}
-use Rattle.answer.specs.declared.Answer.{Answer}
-use Rattle.answer.specs.declared.Answer.TheVariants.{Accepted, SatText, Nodes, Room}
+use Rattle.answer.specs.Answers.{Answer}
+use Rattle.answer.specs.Answers.{accepted_with}
+use Rattle.std.specs.Prelude.{Err}
+use Rattle.answer.specs.declared.Refusal.TheVariants.{SatText, Nodes, Room}
 use Rattle.header.specs.Inner.Heads.{is_done, head_of}
 use Rattle.header.specs.declared.Head.{Head}
 use Rattle.formula.specs.Tables.{node_bytes, most_nodes}
-use Rattle.satfile.specs.Trees.{Tree, size_of, table_of, records_from}
+use Rattle.satfile.specs.Trees.{Tree, size_of, table_of}
 use Rattle.satfile.specs.Texts.{sat}
-use Rattle.satfile.specs.Inner.Reads.{Out, Read, Bad, whole_in}
-use Rattle.satfile.specs.Inner.Parts.{DoneTo, WrongTo, Tells}
+use Rattle.satfile.specs.Inner.Reads.{Out, whole_in}
+use Rattle.satfile.specs.Inner.Parts.{DoneTo, WrongTo}
 use Rattle.satfile.specs.Inner.Calls.{body_call, read_call}
 use Rattle.satfile.specs.Calls.{tree_call}
-use Rattle.satfile.specs.declared.nested.Part.{Part}
-use Rattle.satfile.specs.declared.nested.Part.TheVariants as part
 use Rattle.satfile.proofs.Laws.Records.{length_records}
 use Rattle.satfile.proofs.Laws.Rests.{taken, left}
 
@@ -31,9 +30,9 @@ abbrev gave : Answer → List ℕ → Wrote (List ℕ)
 gave a l = record { answer = a; output = l }
 
 module _ (text buffer : List ℕ) (h : Head) (e : h ≡ head_of sat text) where
-  pub call_headless : is_done h.phase ≡ false → gave (SatText h.place) buffer ≡ read_call text buffer
+  pub call_headless : is_done h.phase ≡ false → gave (Err (SatText h.place)) buffer ≡ read_call text buffer
   call_headless n =
-      ap (λ (x : Head). gave (SatText x.place) buffer) e ∙ sym (left _ _ _ (ap (λ (x : Head). is_done x.phase) (sym e) ∙ n))
+      ap (λ (x : Head). gave (Err (SatText x.place)) buffer) e ∙ sym (left _ _ _ (ap (λ (x : Head). is_done x.phase) (sym e) ∙ n))
 
   -- the head is read
   module _ (d : is_done h.phase ≡ true) where
@@ -46,10 +45,10 @@ module _ (text buffer : List ℕ) (h : Head) (e : h ≡ head_of sat text) where
         ∙ sym (taken _ _ _ (ap (λ (x : Head). is_done x.phase) (sym e) ∙ d))
 
     pub call_wrong : {before after : List ℕ} {place : ℕ} → WrongTo text before out place after
-        → gave (SatText place) buffer ≡ read_call text buffer
+        → gave (Err (SatText place)) buffer ≡ read_call text buffer
     call_wrong {place = place} w =
         let k : place ≡ length text - length (drop place text) = omega (arith, length-drop place text, w.at.within) in
-        ap (λ (x : ℕ). gave (SatText x) buffer) k ∙ sym (ap (λ (o : Out Tree). body_call text h.value o buffer) w.at.out) ∙ by_body
+        ap (λ (x : ℕ). gave (Err (SatText x)) buffer) k ∙ sym (ap (λ (o : Out Tree). body_call text h.value o buffer) w.at.out) ∙ by_body
 
     module _ {before after : List ℕ} {at nodes : ℕ} (x : DoneTo text before h.place 0 out at nodes after) where
       by_tree : tree_call h.value x.tree buffer ≡ read_call text buffer
@@ -61,38 +60,36 @@ module _ (text buffer : List ℕ) (h : Head) (e : h ≡ head_of sat text) where
       bytes : length (table_of x.tree) ≡ node_bytes * nodes
       bytes = length_records 0 x.tree ∙ ap (λ (n : ℕ). node_bytes * n) count
 
-      pub call_many : most_nodes < nodes → gave Nodes buffer ≡ read_call text buffer
+      -- a second reading finds nothing wrong either
+      pub read_again : {before2 after2 : List ℕ} {place : ℕ} → WrongTo text before2 out place after2 → ⊥
+      read_again y = let z : ◌≡◌ {A = ℕ} 0 1 = cc (x.to.out, y.at.out) in omega arith
+
+      pub call_many : most_nodes < nodes → gave (Err Nodes) buffer ≡ read_call text buffer
       call_many m =
           let over : most_nodes < size_of x.tree = omega (arith, count) in
           sym (taken _ _ _ (lt-ltb _ _ over)) ∙ by_tree
 
       module _ (few : nodes ≤ most_nodes) where
-        by_store : stored (Accepted h.value (size_of x.tree)) (table_of x.tree) buffer ≡ read_call text buffer
+        by_store : stored (accepted_with h.value (size_of x.tree)) (table_of x.tree) buffer ≡ read_call text buffer
         by_store =
             let within : size_of x.tree ≤ most_nodes = omega (arith, count) in
             sym (left _ _ _ (le-ltb _ _ within)) ∙ by_tree
 
-        pub call_short : length buffer < node_bytes * nodes → gave Room buffer ≡ read_call text buffer
+        pub call_short : length buffer < node_bytes * nodes → gave (Err Room) buffer ≡ read_call text buffer
         call_short m =
             let over : length buffer < length (table_of x.tree) = omega (arith, bytes) in
             sym (taken _ _ _ (lt-ltb _ _ over)) ∙ by_store
 
         -- the second reading reads the same formula
-        stored_done : {at2 next2 : ℕ} {left_in : List ℕ} → node_bytes * nodes ≤ length buffer
+        pub call_stored : {at2 next2 : ℕ} {left_in : List ℕ} → node_bytes * nodes ≤ length buffer
             → DoneTo text buffer h.place 0 out at2 next2 left_in
-            → gave (Accepted h.value nodes) left_in ≡ read_call text buffer
-        stored_done {left_in = left_in} m y =
+            → gave (accepted_with h.value nodes) left_in ≡ read_call text buffer
+        call_stored {left_in = left_in} m y =
             let same : y.tree ≡ x.tree = cc (x.to.out, y.to.out) in
             let fits : node_bytes * size_of y.tree ≤ length buffer = omega (arith, count, ap size_of same) in
             let room : length (table_of x.tree) ≤ length buffer = omega (arith, bytes) in
             let put : left_in ≡ splice buffer 0 (table_of x.tree) =
             y.adds.stored (omega (arith, y.adds.nodes)) ∙ ap (λ (t : Tree). splice buffer 0 (table_of t)) same in
-            ap (λ (l : List ℕ). gave (Accepted h.value nodes) l) put
-            ∙ ap (λ (n : ℕ). gave (Accepted h.value n) (splice buffer 0 (table_of x.tree))) (sym count)
+            ap (λ (l : List ℕ). gave (accepted_with h.value nodes) l) put
+            ∙ ap (λ (n : ℕ). gave (accepted_with h.value n) (splice buffer 0 (table_of x.tree))) (sym count)
             ∙ sym (left _ _ _ (le-ltb _ _ room)) ∙ by_store
-
-        pub call_stored : (r : Part) (left_in : List ℕ) → node_bytes * nodes ≤ length buffer → Tells text buffer h.place 0 out r left_in
-            → gave (Accepted h.value nodes) left_in ≡ read_call text buffer
-        call_stored (part.Done at2 next2) left_in m y = stored_done m y
-        call_stored (part.Wrong place) left_in m y =
-            let z : ◌≡◌ {A = ℕ} 0 1 = cc (x.to.out, y.at.out) in absurd (omega arith)

@@ -14,7 +14,7 @@ use Rattle.satfile.specs.Inner.Reads.{ends_at, behind, with_one, group_tree, is_
 use Rattle.satfile.specs.Inner.Reads as reads
 use Rattle.satfile.specs.declared.lead.Group.{Group}
 use Rattle.satfile.proofs.Laws.Rests.{taken, left}
-use Rattle.satfile.proofs.Laws.Outcomes.{Same, empty, first, Some, Outcome, none}
+use Rattle.satfile.proofs.Laws.Outcomes.{Same, empty, first, Some, Outcome}
 
 -- a reader of one thing: how it stops; that it reads what its language has, where something follows that may; and that no such thing
 -- begins with what may follow

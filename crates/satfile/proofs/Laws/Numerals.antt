@@ -12,8 +12,8 @@ use borrow.Author.Tests.{eqb-true, leb-true, le-leb, le-ltb, ltb-false}
 use Rattle.laws.proofs.Choices.{both}
 use Rattle.text.specs.Texts.{decimal}
 use Rattle.text.specs.Inner.Numbers.{is_digit, grown_of}
-use Rattle.text.specs.declared.number.Number.{Number}
-use Rattle.text.specs.declared.number.Number.TheVariants as number
+use Rattle.std.specs.Prelude.{Option}
+use Rattle.std.specs.Prelude as std
 use Rattle.text.proofs.Laws.Decimals.{decimal-one, decimal-more, decimal-taken}
 use Rattle.text.proofs.Laws.Numbers.{digit_value, digit_of_lem, grown-more, grown_of_lem}
 use Rattle.header.specs.Heads.{White, blank, return, newline, space, tab}
@@ -58,15 +58,15 @@ module _ (v x b : ℕ) (l : List ℕ) where
   digits-other e s first = left _ _ _ e
 
   module _ (e : is_digit b ≡ true) where
-    digits-over : grown_of true x (b - 48) v ≡ number.Wrong → (s : List ℕ) → Same (b ∷ l) s → digits_from v x s ≡ Bad s
+    digits-over : grown_of true x (b - 48) v ≡ std.None → (s : List ℕ) → Same (b ∷ l) s → digits_from v x s ≡ Bad s
     unfolding digits_from
     digits-over g s (first {r = r}) = taken _ _ _ e ∙ ap (λ n. grown_by n (λ z. digits_from v z r) (Bad (b ∷ r))) g
 
-    digits-grown : (y : ℕ) → grown_of true x (b - 48) v ≡ number.Is y → (r : List ℕ) → digits_from v x (b ∷ r) ≡ digits_from v y r
+    digits-grown : (y : ℕ) → grown_of true x (b - 48) v ≡ std.Some y → (r : List ℕ) → digits_from v x (b ∷ r) ≡ digits_from v y r
     unfolding digits_from
     digits-grown y g r = taken _ _ _ e ∙ ap (λ n. grown_by n (λ z. digits_from v z r) (Bad (b ∷ r))) g
 
-    digit-last : (y : ℕ) → grown_of true x (b - 48) v ≡ number.Is y → decimal y ≡ decimal x ++ (b ∷ [])
+    digit-last : (y : ℕ) → grown_of true x (b - 48) v ≡ std.Some y → decimal y ≡ decimal x ++ (b ∷ [])
     digit-last y g =
         let d = digit_of_lem b e in
         let w = grown_of_lem true x (b - 48) v y g in
@@ -78,9 +78,9 @@ digits_stop v x [] h g = good x [] [] refl (digits-end v x) (is_numeral v x h g)
 digits_stop v x (b ∷ l) h g = go (is_digit b) refl (λ y. digits_stop v y l)
   where
     grows : is_digit b ≡ true → ((y : ℕ) → 0 < y → y ≤ v → Outcome (λ m o. digits_from v y m ≡ o) (Numeral v (decimal y)) l)
-        → (n : Number) → grown_of true x (b - 48) v ≡ n → Outcome (λ m o. digits_from v x m ≡ o) (Numeral v (decimal x)) (b ∷ l)
-    grows e more number.Wrong q = wrong [] (b ∷ l) refl (digits-over v x b l e q) (some_numeral v x h g)
-    grows e more (number.Is y) q =
+        → (n : Option ℕ) → grown_of true x (b - 48) v ≡ n → Outcome (λ m o. digits_from v x m ≡ o) (Numeral v (decimal x)) (b ∷ l)
+    grows e more std.None q = wrong [] (b ∷ l) refl (digits-over v x b l e q) (some_numeral v x h g)
+    grows e more (std.Some y) q =
         let w = grown_of_lem true x (b - 48) v y q in
         let p : 0 < y = omega (arith, w.value) in
         let d = digit-last v x b l e y q in

@@ -1,19 +1,19 @@
 -- What is left of a text from a place on, as the reader takes it apart: byte by byte, white space, digits, and how a formula begins.
 -- Assumes nothing.
-use mathlib.Core.Path.{◌≡◌, refl, sym, ap, ◌∙◌}
-use mathlib.Core.Bool.{Bool, true, false, cond, not, ◌&&◌, ◌||◌, false≢true}
+use mathlib.Core.Path.{◌≡◌, refl, ap, ◌∙◌}
+use mathlib.Core.Bool.{Bool, true, false, cond, not, ◌||◌, false≢true}
 use mathlib.Core.List.{List, [], ◌∷◌}
-use Prim.Native.Nat.{ℕ, suc, ◌+◌, ◌-◌, ◌≤◌, ◌<◌}
+use Prim.Native.Nat.{ℕ, ◌+◌, ◌-◌, ◌≤◌, ◌<◌}
 use native.Mathlib.Numerals.{add-one}
 use native.Mathlib.Omega.{arith}
-use lib.Dec.{eqb, leb, ltb}
-use lib.ListN.{length, get_or, drop, drop_of_length-le, length-drop}
+use lib.Dec.{eqb}
+use lib.ListN.{length, get_or, drop, drop_of_length-le}
 use lib.Seq.{drop-cons}
 use borrow.Author.Tests.{eqb-false, eq-eqb, ne_eqb, le-leb, lt-leb, lt-ltb, le-ltb}
 use Rattle.text.specs.Inner.Numbers.{is_digit, grown_of}
-use Rattle.text.specs.declared.number.Number.TheVariants as number
-use Rattle.satfile.specs.Inner.Reads.{Out, Read, Bad, and_then, is_space, skipped, grown_by, digits_from, is_first, number_in}
-use Rattle.satfile.specs.Inner.Reads.{fills, negates, Begin, Leaf, Open, one_of, operand_in, open_in, begin_in, is_whole, ends_at, is_parted}
+use Rattle.std.specs.Prelude.{Some, None}
+use Rattle.satfile.specs.Inner.Reads.{Read, Bad, and_then, is_space, skipped, grown_by, digits_from, is_first, number_in}
+use Rattle.satfile.specs.Inner.Reads.{fills, negates, Leaf, Open, one_of, operand_in, open_in, begin_in, is_whole, ends_at, is_parted}
 use Rattle.satfile.specs.declared.lead.Group.{Group}
 use Rattle.satfile.specs.declared.lead.Group.TheVariants as group
 
@@ -59,7 +59,7 @@ module _ (text : List ℕ) (i : ℕ) where
       unfolding digits_from
       digits_stop e = rw (rest-byte h) (left _ _ _ e)
 
-      pub digits_on : (y : ℕ) → is_digit byte ≡ true → grown_of true x (byte - 48) v ≡ number.Is y
+      pub digits_on : (y : ℕ) → is_digit byte ≡ true → grown_of true x (byte - 48) v ≡ Some y
           → digits_from v x (drop i text) ≡ digits_from v y (drop (i + 1) text)
       unfolding digits_from
       digits_on y e g =
@@ -67,7 +67,7 @@ module _ (text : List ℕ) (i : ℕ) where
           (taken _ _ _ e
           ∙ ap (λ n. grown_by n (λ z. digits_from v z (drop (i + 1) text)) (Bad (byte ∷ drop (i + 1) text))) g)
 
-      pub digits-wrong : is_digit byte ≡ true → grown_of true x (byte - 48) v ≡ number.Wrong
+      pub digits-wrong : is_digit byte ≡ true → grown_of true x (byte - 48) v ≡ None
           → digits_from v x (drop i text) ≡ Bad (drop i text)
       unfolding digits_from
       digits-wrong e g =

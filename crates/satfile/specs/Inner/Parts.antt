@@ -1,16 +1,15 @@
 -- What the functions of the reader tell: places in a text, and the numbers of nodes.
 -- Assumes nothing: these are definitions.
-use Rattle.std.specs.Prelude.{◌≡◌, Bool, true, false, cond, List, ℕ, ◌+◌, ◌^◌, ◌≤◌, ◌<◌, length, drop}
+use Rattle.std.specs.Prelude.{◌≡◌, Bool, false, cond, List, ℕ, ◌+◌, ◌^◌, ◌≤◌, ◌<◌, length, drop, Result, Ok, Err}
 use Rattle.satfile.specs.Trees.{Tree, size_of, records_from}
 use Rattle.satfile.specs.Inner.Reads.{Out, Read, Bad, skipped, Begin, Leaf, Open, is_whole}
 use Rattle.satfile.specs.Inner.Stores.{Adds}
 use Rattle.satfile.specs.declared.lead.Group.{Group}
 use Rattle.satfile.specs.declared.lead.Numeral.{Numeral}
-use Rattle.satfile.specs.declared.lead.Numeral.TheVariants as numeral
+use Rattle.satfile.specs.declared.lead.Wrong.{Wrong}
 use Rattle.satfile.specs.declared.lead.Lead.{Lead}
 use Rattle.satfile.specs.declared.lead.Lead.TheVariants as lead
 use Rattle.satfile.specs.declared.nested.Part.{Part}
-use Rattle.satfile.specs.declared.nested.Part.TheVariants as part
 
 -- the place behind white space
 pub record Skipped (text : List ℕ) (at r : ℕ) : Type 0 where
@@ -30,9 +29,9 @@ pub record ReadTo {A : Type 0} (text : List ℕ) (o : Out A) (a : A) (from at : 
   pub within : at ≤ length text
 
 -- what reading a number tells
-abbrev pub TellsNumber : List ℕ → ℕ → Out ℕ → Numeral → Type 0
-TellsNumber text from o (numeral.Is value at) = ReadTo text o value from at
-TellsNumber text from o (numeral.Wrong place) = WrongAt text o place
+abbrev pub TellsNumber : List ℕ → ℕ → Out ℕ → Result Numeral Wrong → Type 0
+TellsNumber text from o (Ok n) = ReadTo text o n.value from n.at
+TellsNumber text from o (Err w) = WrongAt text o w.place
 
 -- the nodes of a symbol, negated or not. It has as many bytes, but of a negated one the first is its `-`
 abbrev pub leaf_nodes : Bool → ℕ
@@ -46,10 +45,10 @@ pub record OpenTo (text : List ℕ) (o : Out Begin) (g : Group) (from at d : ℕ
   pub to : ReadTo text o (Open g) from at
   pub deep : 0 < d
 
-abbrev pub TellsBegin : (Bool → ℕ) → List ℕ → ℕ → ℕ → Out Begin → Lead → Type 0
-TellsBegin least text from d o (lead.Symbol value negated at) = ReadTo text o (Leaf value negated) (from + least negated) at
-TellsBegin least text from d o (lead.Open g at) = OpenTo text o g from at d
-TellsBegin least text from d o (lead.Wrong place) = WrongAt text o place
+abbrev pub TellsBegin : (Bool → ℕ) → List ℕ → ℕ → ℕ → Out Begin → Result Lead Wrong → Type 0
+TellsBegin least text from d o (Ok (lead.Symbol value negated at)) = ReadTo text o (Leaf value negated) (from + least negated) at
+TellsBegin least text from d o (Ok (lead.Open g at)) = OpenTo text o g from at d
+TellsBegin least text from d o (Err w) = WrongAt text o w.place
 
 -- a formula was read: the place behind it, and the number of the next node. It has no more nodes than bytes
 pub record DoneTo (text before : List ℕ) (from i : ℕ) (o : Out Tree) (at next : ℕ) (after : List ℕ) : Type 0 where
@@ -63,9 +62,9 @@ pub record WrongTo (text before : List ℕ) (o : Out Tree) (place : ℕ) (after 
   pub same : length after ≡ length before
 
 -- what reading a formula or a group tells
-abbrev pub Tells : List ℕ → List ℕ → ℕ → ℕ → Out Tree → Part → List ℕ → Type 0
-Tells text before from i o (part.Done at next) after = DoneTo text before from i o at next after
-Tells text before from i o (part.Wrong place) after = WrongTo text before o place after
+abbrev pub Tells : List ℕ → List ℕ → ℕ → ℕ → Out Tree → Result Part Wrong → List ℕ → Type 0
+Tells text before from i o (Ok p) after = DoneTo text before from i o p.at p.next after
+Tells text before from i o (Err w) after = WrongTo text before o w.place after
 
 -- what reading a formula asks: a place in the text, and no more nodes than bytes so far
 pub record Readable (text : List ℕ) (at next : ℕ) : Type 0 where

@@ -1,10 +1,8 @@
 -- The reader of a formula, as the code goes: how a formula begins, a group of formulas up to where it ends, and the whole.
 -- It says of a text what was read and what is left of the text; or, where no accepted text goes on so, what is left from there on.
 -- Assumes nothing: these are definitions.
-use Rattle.std.specs.Prelude.{Bool, true, false, cond, not, ◌&&◌, ◌||◌, List, [], ◌∷◌, ℕ, zero, suc, ◌-◌, eqb, leb, ltb, length, drop}
+use Rattle.std.specs.Prelude.{Bool, true, false, cond, not, ◌&&◌, ◌||◌, List, [], ◌∷◌, ℕ, zero, suc, ◌-◌, eqb, leb, ltb, length, drop, Option, Some, None}
 use Rattle.text.specs.Inner.Numbers.{is_digit, grown_of}
-use Rattle.text.specs.declared.number.Number.{Number}
-use Rattle.text.specs.declared.number.Number.TheVariants as number
 use Rattle.classes.specs.Inner.Classes.{class_of, is_white}
 use Rattle.satfile.specs.Trees.{Join, And, Or, Tree, Symbol, Empty, Not, Joined}
 use Rattle.satfile.specs.Texts.{most_open}
@@ -29,9 +27,9 @@ skipped [] = []
 skipped (b ∷ l) = cond (is_space b) (skipped l) (b ∷ l)
 
 -- a number, behind the digits of x, and from its first digit on
-abbrev pub grown_by : Number → (ℕ → Out ℕ) → Out ℕ → Out ℕ
-grown_by (number.Is y) k bad = k y
-grown_by number.Wrong k bad = bad
+abbrev pub grown_by : Option ℕ → (ℕ → Out ℕ) → Out ℕ → Out ℕ
+grown_by (Some y) k bad = k y
+grown_by None k bad = bad
 
 unfoldable pub digits_from : ℕ → ℕ → List ℕ → Out ℕ
 digits_from v x [] = Read x []

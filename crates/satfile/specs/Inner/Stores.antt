@@ -1,12 +1,26 @@
 -- The records of a formula, stored one after the other as far as the table has room.
 -- Assumes nothing: these are definitions.
-use Rattle.std.specs.Prelude.{◌≡◌, Bool, true, false, cond, List, [], ℕ, ◌+◌, ◌*◌, ◌-◌, ◌^◌, ◌≤◌, ◌<◌, eqb, length}
+use Rattle.std.specs.Prelude.{◌≡◌, false, cond, List, [], ℕ, ◌+◌, ◌*◌, ◌-◌, ◌^◌, ◌≤◌, ◌<◌, eqb, length}
 use Rattle.laws.specs.Lists.{splice}
 use Rattle.formula.specs.Tables.{node_bytes, node_record}
-use Rattle.satfile.specs.Trees.{Tree, And, Or, size_of, empty_kind, join_kind, records_from}
+use Rattle.formula.specs.declared.node.Kind.{Kind}
+use Rattle.formula.specs.declared.node.Kind.TheVariants as kind
+use Rattle.satfile.specs.Trees.{And, Or, size_of, empty_kind, join_kind, records_from}
 use Rattle.satfile.specs.Inner.Reads.{Partly, none, some, join_of, is_whole}
 use Rattle.satfile.specs.declared.lead.Group.{Group}
 use Rattle.satfile.specs.declared.lead.Group.TheVariants as group
+
+-- the number of a kind in a record; there is none for an unknown one
+abbrev pub kind_number : Kind → ℕ
+kind_number kind.False = 0
+kind_number kind.True = 1
+kind_number kind.Symbol = 2
+kind_number kind.Not = 3
+kind_number kind.And = 4
+kind_number kind.Or = 5
+kind_number kind.Implies = 6
+kind_number kind.Equivalent = 7
+kind_number kind.Unknown = 8
 
 -- the n nodes from i on were stored, where the table has room for them; `next` is the node behind them
 pub record Adds (records : List ℕ) (n : ℕ) (before : List ℕ) (i next : ℕ) (after : List ℕ) : Type 0 where

@@ -13,63 +13,58 @@ returns-then-text-at c =
     let a = c.args in
     record { out = begin-end a.text.now a.at a.options a.depth c.if-text-at.true; within = c.requires }
 
-pub returns-then-depth-eq0 : goal.returns-then-depth-eq0
-returns-then-depth-eq0 c =
-    let a = c.args in
-    record {
-      out = begin_star_no a.text.now a.at a.options a.depth c.if-text-at.false c.if-byte-eq-STAR.true c.if-depth-eq0.true;
-      within = c.requires;
-    }
-
-pub returns-then-byte-eq-STAR : goal.returns-then-byte-eq-STAR
-returns-then-byte-eq-STAR c =
+pub returns-in-42 : goal.returns-in-42
+returns-in-42 c =
     let a = c.args in
     begin_as a.text.now a.at (a.at + 1) a.depth
-    (begin_star a.text.now a.at a.options a.depth c.if-text-at.false c.if-byte-eq-STAR.true c.if-depth-eq0.false)
+    (begin_star a.text.now a.at a.options a.depth c.if-text-at.false c.in-42.is c.if-depth-ne0.true)
     (omega arith) true (few-behind a.at) c.list.result c.list.ensures
 
-pub returns-then-depth-eq0-2 : goal.returns-then-depth-eq0-2
-returns-then-depth-eq0-2 c =
+pub returns-in-42-2 : goal.returns-in-42-2
+returns-in-42-2 c =
     let a = c.args in
     record {
-      out =
-          begin_plus_no a.text.now a.at a.options a.depth c.if-text-at.false c.if-byte-eq-STAR.false c.if-byte-eq-PLUS.true
-          c.if-depth-eq0-2.true;
+      out = begin_star_no a.text.now a.at a.options a.depth c.if-text-at.false c.in-42.is c.if-depth-ne0.false;
       within = c.requires;
     }
 
-pub returns-then-byte-eq-PLUS : goal.returns-then-byte-eq-PLUS
-returns-then-byte-eq-PLUS c =
+pub returns-in-43 : goal.returns-in-43
+returns-in-43 c =
     let a = c.args in
     begin_as a.text.now a.at (a.at + 1) a.depth
-    (begin_plus a.text.now a.at a.options a.depth c.if-text-at.false c.if-byte-eq-STAR.false c.if-byte-eq-PLUS.true
-    c.if-depth-eq0-2.false)
-    (omega arith) true (few-behind a.at) c.list-then-byte-eq-PLUS.result c.list-then-byte-eq-PLUS.ensures
+    (begin_plus a.text.now a.at a.options a.depth c.if-text-at.false (λ e. omega arith) c.in-43.is c.if-depth-ne0-2.true)
+    (omega arith) true (few-behind a.at) c.list-in-43.result c.list-in-43.ensures
 
-pub returns-then-not-is_negated : goal.returns-then-not-is_negated
-returns-then-not-is_negated c =
+pub returns-in-42-2-2 : goal.returns-in-42-2-2
+returns-in-42-2-2 c =
     let a = c.args in
     record {
       out =
-          begin_minus_no a.text.now a.at a.options a.depth c.if-text-at.false c.if-byte-eq-STAR.false c.if-byte-eq-PLUS.false
-          c.if-byte-eq-MINUS.true
-          (sym c.is_negated.ensures ∙ c.if-not-is_negated.true);
+          begin_plus_no a.text.now a.at a.options a.depth c.if-text-at.false (λ e. omega arith) c.in-43.is c.if-depth-ne0-2.false;
       within = c.requires;
     }
 
-pub returns-then-byte-eq-MINUS : goal.returns-then-byte-eq-MINUS
-returns-then-byte-eq-MINUS c =
+pub returns-in-45 : goal.returns-in-45
+returns-in-45 c =
     let a = c.args in
     begin_as a.text.now a.at (a.at + 1) a.depth
-    (begin-minus a.text.now a.at a.options a.depth c.if-text-at.false c.if-byte-eq-STAR.false c.if-byte-eq-PLUS.false
-    c.if-byte-eq-MINUS.true
-    (sym c.is_negated.ensures ∙ c.if-not-is_negated.false))
+    (begin-minus a.text.now a.at a.options a.depth c.if-text-at.false (λ e. omega arith) (λ e. omega arith) c.in-45.is
+    (sym c.is_negated.ensures ∙ c.if-is_negated.true))
     (omega arith) true (few-behind a.at) c.operand.result c.operand.ensures
 
-pub returns : goal.returns
-returns c =
+pub returns-in-42-2-3 : goal.returns-in-42-2-3
+returns-in-42-2-3 c =
+    let a = c.args in
+    record {
+      out =
+          begin_minus_no a.text.now a.at a.options a.depth c.if-text-at.false (λ e. omega arith) (λ e. omega arith) c.in-45.is
+          (sym c.is_negated.ensures ∙ c.if-is_negated.false);
+      within = c.requires;
+    }
+
+pub returns-in_default : goal.returns-in_default
+returns-in_default c =
     let a = c.args in
     begin_as a.text.now a.at a.at a.depth
-    (begin-other a.text.now a.at a.options a.depth c.if-text-at.false c.if-byte-eq-STAR.false c.if-byte-eq-PLUS.false
-    c.if-byte-eq-MINUS.false)
-    (omega arith) false (λ n. omega arith) c.operand-2.result c.operand-2.ensures
+    (begin-other a.text.now a.at a.options a.depth c.if-text-at.false (λ e. omega arith) (λ e. omega arith) (λ e. omega arith))
+    (omega arith) false (λ n. omega arith) c.operand-in_default.result c.operand-in_default.ensures

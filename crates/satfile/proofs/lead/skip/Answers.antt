@@ -1,6 +1,8 @@
 -- `satfile::lead::skip` meets its contract: white space is passed byte by byte. The invariant: what is left has the same text behind
 -- its white space. Assumes nothing.
-use mathlib.Core.Path.{refl, sym, ◌∙◌}
+use mathlib.Core.Path.{◌≡◌, refl, sym, ◌∙◌, subst}
+use lib.ListN.{length}
+use Rattle.satfile.specs.Inner.Parts.{Skipped}
 use native.Mathlib.Omega.{arith}
 use Rattle.satfile.proofs.Laws.Rests.{skipped-end, skipped_stop, skipped_on}
 use Rattle.satfile.proofs.lead.skip.Goals as goal
@@ -27,11 +29,13 @@ loop-i-preserved c = (
 
 pub returns : goal.returns
 returns c =
-    record {
-      rest = sym (skipped-end c.args.text.now c.loop-i.i c.loop-i-test.false) ∙ c.loop-i.invariant.2;
+    let text = c.args.text.now in
+    let e : c.loop-i.i ≡ length text = omega (arith, c.loop-i-test.false, c.loop-i.invariant.1) in
+    subst (Skipped text c.args.at) e (record {
+      rest = sym (skipped-end text c.loop-i.i c.loop-i-test.false) ∙ c.loop-i.invariant.2;
       onward = c.loop-i.invariant.0;
       within = c.loop-i.invariant.1;
-    }
+    })
 
 pub loop-i-init : goal.loop-i-init
 loop-i-init c =

@@ -1,32 +1,39 @@
 -- `satfile::nested::formula` and `satfile::nested::list` meet their contracts: a formula is a symbol or a group; a group goes on, takes a
 -- member and has read it, or it ends and has its members. Assumes nothing.
-use Rattle.std.proofs.Common.{◌≡◌, refl, sym, ◌∙◌, true, false, ℕ, drop, arith}
-use Rattle.satfile.specs.Inner.Reads.{takes, ends_at}
+use Rattle.std.proofs.Common.{◌≡◌, refl, sym, ap, ◌∙◌, true, false, ℕ, drop, arith}
+use Rattle.std.specs.Prelude.{Ok}
+use Rattle.std.proofs.lemmas.Result.{err_from_is_err_and}
+use Rattle.satfile.specs.Inner.Reads.{takes, ends_at, formula_in}
+use Rattle.satfile.specs.Inner.Parts.{DoneTo, WrongTo}
+use Rattle.satfile.proofs.Laws.Tells.{begin-leaf, begin-open, begin-wrong, told_done, told-wrong}
 use Rattle.satfile.proofs.Laws.Begins.{leaf_done, open_told, formula-wrong}
 use Rattle.satfile.proofs.Laws.Turns.{group_start, takes_by, full_by, group_over, group_lacks, group_wrong, group_unparted}
 use Rattle.satfile.proofs.Laws.Turns.{group_next, ahead, group_done}
 use Rattle.satfile.proofs.nested.+formula_list.Goals as goal
-use Rattle.satfile.proofs.nested.+formula_list.Goals.{list-After-is_open, list-Else-not-is_open, list-Else-not-is_full}
+use Rattle.satfile.proofs.nested.+formula_list.Goals.{list-After-is_open, list-Else-not-is_open, list-Else-not-is_full, list-In_ok-member}
 
 pub formula-returns-in-Symbol : goal.formula-returns-in-Symbol
 formula-returns-in-Symbol t c =
-    let a = c.args in leaf_done a.options a.depth a.text.now a.at _ _ c.in-Symbol.ensures c.leaf.ensures
+    let a = c.args in
+    let read = begin-leaf a.text.now a.at a.depth _ _ c.begin.ensures _ _ _ (c.in_ok-value.was ∙ ap Ok c.in-Symbol.is) in
+    leaf_done a.options a.depth a.text.now a.at _ _ read c.leaf.ensures
 
 pub formula-returns-in-Open : goal.formula-returns-in-Open
 formula-returns-in-Open t c =
     let a = c.args in
-    open_told a.options a.depth a.text.now a.at _ _ c.in-Open.ensures a.table.now _ a.next c.list.result c.list.ensures
+    let read = begin-open a.text.now a.at a.depth _ _ c.begin.ensures _ _ (c.in_ok-value.was ∙ ap Ok c.in-Open.is) in
+    open_told a.options a.depth a.text.now a.at _ _ read a.table.now _ a.next c.list.result c.list.ensures
 
-pub formula-returns-in-Wrong : goal.formula-returns-in-Wrong
-formula-returns-in-Wrong t c =
+pub formula-returns-in_err-value : goal.formula-returns-in_err-value
+formula-returns-in_err-value t c =
     let a = c.args in
-    record {
-      at = record {
-        out = formula-wrong a.options a.depth (drop a.at a.text.now) _ c.in-Wrong.ensures.out;
-        within = c.in-Wrong.ensures.within;
-      };
+    let wrong = begin-wrong a.text.now a.at a.depth _ _ c.begin.ensures _ c.in_err-value.was in
+    let told : WrongTo a.text.now a.table.now (formula_in a.options a.depth (drop a.at a.text.now)) _ a.table.now = record {
+      at = record { out = formula-wrong a.options a.depth (drop a.at a.text.now) _ wrong.out; within = wrong.within };
       same = refl;
-    }
+    } in
+    let p = err_from_is_err_and c.from_residual.result c.from_residual.ensures.1 in
+    rw (p.1, p.2) told
 
 pub list-loop-group-init : goal.list-loop-group-init
 list-loop-group-init t c = group_start c.requires.within c.skip-i.ensures
@@ -47,28 +54,40 @@ list-returns-then-not-is_open t c =
     (sym (taking t (goal.at.list-returns-then-not-is_open t c).After-is_open) ∙ c.if-not-is_open.true)
 
 -- a member
+member-read : (t : ℕ) (c : list-In_ok-member t)
+    → let a = c.args in
+    let m = c.in_ok-member.member in
+    DoneTo a.text.now c.loop-group.table c.loop-group.i c.loop-group.behind
+    (formula_in a.options a.depth (drop c.loop-group.i a.text.now)) m.at m.next c.formula.new.table
+member-read t c = told_done c.args.text.now c.loop-group.table c.loop-group.i c.loop-group.behind _ _ _ c.formula.ensures _ c.in_ok-member.was
+
 pub list-returns-then-not-is_parted : goal.list-returns-then-not-is_parted
 list-returns-then-not-is_parted t c =
-    let else = (goal.at.list-returns-then-not-is_parted t c).Else-not-is_open in
-    group_unparted c.loop-group.invariant (goes_on t else) (takes_one t else) c.in-Done.ensures
+    let at = goal.at.list-returns-then-not-is_parted t c in
+    group_unparted c.loop-group.invariant (goes_on t at.Else-not-is_open) (takes_one t at.Else-not-is_open) (member-read t at.In_ok-member)
     (sym c.is_parted.ensures ∙ c.if-not-is_parted.true)
 
 pub list-loop-group-smaller : goal.list-loop-group-smaller
 list-loop-group-smaller t c =
-    let else = (goal.at.list-loop-group-smaller t c).Else-not-is_open in
-    let on = ahead c.loop-group.invariant (goes_on t else) (takes_one t else) c.in-Done.ensures in
-    omega (arith, on, c.skip-i-in-Done.ensures.onward, c.in-Done.ensures.to.within)
+    let at = goal.at.list-loop-group-smaller t c in
+    let read = member-read t at.In_ok-member in
+    let on = ahead c.loop-group.invariant (goes_on t at.Else-not-is_open) (takes_one t at.Else-not-is_open) read in
+    omega (arith, on, c.skip-i-in-loop-group.ensures.onward, read.to.within)
 
 pub list-loop-group-preserved : goal.list-loop-group-preserved
 list-loop-group-preserved t c =
-    let else = (goal.at.list-loop-group-preserved t c).Else-not-is_open in
-    group_next c.loop-group.invariant (goes_on t else) (takes_one t else) c.in-Done.ensures c.fold-behind.ensures
-    (sym c.is_parted.ensures ∙ c.if-not-is_parted.false) c.skip-i-in-Done.ensures
+    let at = goal.at.list-loop-group-preserved t c in
+    group_next c.loop-group.invariant (goes_on t at.Else-not-is_open) (takes_one t at.Else-not-is_open) (member-read t at.In_ok-member)
+    c.fold-behind.ensures
+    (sym c.is_parted.ensures ∙ c.if-not-is_parted.false) c.skip-i-in-loop-group.ensures
 
-pub list-returns-in-Wrong : goal.list-returns-in-Wrong
-list-returns-in-Wrong t c =
-    let else = (goal.at.list-returns-in-Wrong t c).Else-not-is_open in
-    group_wrong c.loop-group.invariant (goes_on t else) (takes_one t else) c.in-Wrong.ensures
+pub list-returns-in_err-member : goal.list-returns-in_err-member
+list-returns-in_err-member t c =
+    let else = (goal.at.list-returns-in_err-member t c).Else-not-is_open in
+    let wrong = told-wrong c.args.text.now c.loop-group.table c.loop-group.i c.loop-group.behind _ _ _ c.formula.ensures _ c.in_err-member.was in
+    let told = group_wrong c.loop-group.invariant (goes_on t else) (takes_one t else) wrong in
+    let p = err_from_is_err_and c.from_residual.result c.from_residual.ensures.1 in
+    rw (p.1, p.2) told
 
 -- the group ends: whether it has its members
 pub list-returns-then-not-is_full : goal.list-returns-then-not-is_full
