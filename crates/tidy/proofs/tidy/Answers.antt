@@ -17,16 +17,6 @@ found c =
     let x = c.args in
     found_of_checked x.clauses.now x.variables _ _ (sym c.check.ensures ∙ c.in-Some.is)
 
-pub returns-in_default : goal.returns-in_default
-returns-in_default c =
-    let x = c.args in
-    call_refused x.clauses.now x.variables _ _ (sym c.check.ensures ∙ c.in_default.is)
-
--- either buffer is too short, or both have room
-pub returns-then-not-fits : goal.returns-then-not-fits
-returns-then-not-fits c =
-    call_short (found (goal.at.returns-then-not-fits c).In-Some) c.put_all-measured.ensures (sym c.fits.ensures ∙ c.if-not-fits.true)
-
 fit : (c : Else-not-fits) → let pen = c.put_all-measured.result in
     (leb pen.kept (length c.put_all-measured.new.out) && leb pen.lines (length c.put_all-measured.new.lines)) ≡ true
 fit c = sym c.fits.ensures ∙ c.if-not-fits.false
@@ -34,11 +24,3 @@ fit c = sym c.fits.ensures ∙ c.if-not-fits.false
 pub put_all-requires : goal.put_all-requires
 put_all-requires c =
     whole-written (found (goal.at.put_all-requires c).In-Some) c.put_all-measured.ensures (fit (goal.at.put_all-requires c).Else-not-fits)
-
-pub returns : goal.returns
-returns c =
-    call_written (found (goal.at.returns c).In-Some) c.put_all-measured.ensures (fit (goal.at.returns c).Else-not-fits) c.put_all.ensures
-
-pub put_all-measured-requires : goal.put_all-measured-requires
-put_all-measured-requires c =
-    whole-measured (found (goal.at.put_all-measured-requires c).In-Some)

@@ -38,18 +38,6 @@ row-found c = c.first_clauses-found.ensures.1 ∙ c.loop-start.invariant.1
 firsts-long : (c : After-first_clauses-found) → length c.first_clauses-found.result.firsts ≡ most
 firsts-long c = search rules
 
-pub overflow_sub-count : goal.overflow_sub-count
-overflow_sub-count c =
-    omega (arith, c.loop-start-test.true)
-
-pub slice_bounds-first_clauses-end : goal.slice_bounds-first_clauses-end
-slice_bounds-first_clauses-end c =
-    long _ c.loop-start.invariant.1
-
-pub slice_bounds-put_window-end-in-loop-start : goal.slice_bounds-put_window-end-in-loop-start
-slice_bounds-put_window-end-in-loop-start c =
-    long _ (row-found (goal.at.slice_bounds-put_window-end-in-loop-start c).After-first_clauses-found)
-
 pub loop-start-init : goal.loop-start-init
 loop-start-init c =
     let x = c.args in
@@ -79,10 +67,6 @@ part-long : (c : After-first_clauses-found) → length (take c.window_size-size.
 part-long c =
     let size = sized (goal.at.After-first_clauses-found c).After-window_size-size in
     length-take-le c.window_size-size.result c.first_clauses-found.result.firsts (omega (arith, size.few, firsts-long c))
-
-pub slice_bounds-put_window-end : goal.slice_bounds-put_window-end
-slice_bounds-put_window-end c =
-    sym (part-long (goal.at.slice_bounds-put_window-end c).After-first_clauses-found)
 
 pub put_window-walked-requires : goal.put_window-walked-requires
 put_window-walked-requires c =

@@ -47,23 +47,3 @@ overflow_add-at c =
 pub loop-i-init : goal.loop-i-init
 loop-i-init c =
     (passing_start c.requires, refl)
-
-pub bounds-firsts-i : goal.bounds-firsts-i
-bounds-firsts-i c =
-    omega (arith, c.loop-i-test.true, c.requires.firsts_size)
-
-pub shape_of-out : goal.shape_of-out
-shape_of-out c =
-    (lengths-same c.requires c.loop-i.invariant.0).0
-
-pub shape_of-lines : goal.shape_of-lines
-shape_of-lines c =
-    (lengths-same c.requires c.loop-i.invariant.0).1
-
-pub shape_of-row : goal.shape_of-row
-shape_of-row c =
-    ap length c.loop-i.invariant.1
-
-pub returns : goal.returns
-returns c =
-    (passing_end c.requires c.loop-i.invariant.0 c.loop-i-test.false, c.loop-i.invariant.1)

@@ -32,24 +32,6 @@ loop-j-init c =
 row_is : (c : At-loop-j) → c.loop-j.row ≡ c.args.row.now
 row_is c = c.loop-j.invariant.1 ∙ c.note.ensures.1
 
-pub sign-sign-requires : goal.sign-sign-requires
-sign-sign-requires c =
-    let p = c.requires in
-    record { ready = record { within = p.ready.within; empty = row_is (goal.at.sign-sign-requires c).At-loop-j ∙ p.ready.empty }; few = p.seed_few }
-
-pub scan-misses-requires : goal.scan-misses-requires
-scan-misses-requires c =
-    let p = c.requires in
-    let s = c.loop-j.invariant.0 in
-    record {
-      ready = record { within = p.ready.within; empty = c.sign-sign.ensures.1 ∙ row_is (goal.at.scan-misses-requires c).At-loop-j ∙ p.ready.empty };
-      seed = c.args.seed;
-      signed = c.note.ensures.0.signed;
-      sign_is = c.sign-sign.ensures.0;
-      firsts_size = s.size;
-      slotted = s.slotted;
-    }
-
 -- the number of a clause is below that of no clause
 below : (c : In-loop-j) → c.loop-j.j < c.args.start + c.args.count
 below c = c.loop-j-test.true
@@ -61,13 +43,6 @@ few c = let p = c.requires in omega (arith, below c, p.within, p.clauses)
 missed : (c : After-scan-misses)
     → c.loop-j.misses + c.scan-misses.result ≤ most * (c.loop-j.j + 1)
 missed c = omega (arith, c.loop-j.invariant.2, c.scan-misses.ensures.2)
-
--- it is given up
-pub returns-then-misses-limit : goal.returns-then-misses-limit
-returns-then-misses-limit c = (
-  omega (arith, missed (goal.at.returns-then-misses-limit c).After-scan-misses, few (goal.at.returns-then-misses-limit c).In-loop-j, c.if-misses-limit.true),
-  c.scan-misses.ensures.1 ∙ c.sign-sign.ensures.1 ∙ row_is (goal.at.returns-then-misses-limit c).At-loop-j,
-)
 
 -- clause j was looked for
 next : (c : After-end_of-at)
@@ -91,22 +66,6 @@ pub returns : goal.returns
 returns c =
     (searching_end c.loop-j.invariant.0 c.loop-j-test.false, row_is (goal.at.returns c).At-loop-j)
 
-pub overflow_cast-end : goal.overflow_cast-end
-overflow_cast-end c =
-    record { fits = omega (arith, c.requires.few) }
-
-pub overflow_add-end : goal.overflow_add-end
-overflow_add-end c =
-    let p = c.requires in record { fits = omega (arith, p.within, p.clauses) }
-
-pub overflow_add-misses : goal.overflow_add-misses
-overflow_add-misses c =
-    record { fits = omega (arith, few (goal.at.overflow_add-misses c).In-loop-j, missed (goal.at.overflow_add-misses c).After-scan-misses) }
-
-pub shape_of-row-then-misses-limit : goal.shape_of-row-then-misses-limit
-shape_of-row-then-misses-limit c =
-    ap length (returns-then-misses-limit c).1
-
 pub overflow_add-at : goal.overflow_add-at
 overflow_add-at c =
     record {
@@ -118,7 +77,3 @@ overflow_add-at c =
         c.requires.long,
       );
     }
-
-pub shape_of-row : goal.shape_of-row
-shape_of-row c =
-    ap length (row_is (goal.at.shape_of-row c).At-loop-j)

@@ -19,18 +19,9 @@ loop-i-init c =
       refl,
     )
 
-pub sign-sign-requires : goal.sign-sign-requires
-sign-sign-requires c =
-    let p = c.requires in
-    record { ready = record { within = p.ready.within; empty = c.loop-i.invariant.1 ∙ p.ready.empty }; few = p.seed_few }
-
 -- the number of a clause is below the entries of both arrays
 below : (c : In-loop-i) → c.loop-i.i < 1_024
 below c = omega (arith, c.requires.few, c.loop-i-test.true)
-
-pub put-requires : goal.put-requires
-put-requires c =
-    rw c.slot.ensures (slot-inside c.sign-sign.result (length c.loop-i.slots) c.loop-i.invariant.0.size)
 
 -- one clause more
 more : (c : After-end_of-at)
@@ -48,16 +39,3 @@ overflow_add-at c = record { fits = omega (arith, (more c).low, below (goal.at.o
 pub loop-i-preserved : goal.loop-i-preserved
 loop-i-preserved c =
     (more c, c.sign-sign.ensures.1 ∙ c.loop-i.invariant.1)
-
-pub returns : goal.returns
-returns c =
-    let p = c.requires in
-    (noting_end c.loop-i.invariant.0 c.loop-i-test.false p.few p.seed_few, c.loop-i.invariant.1)
-
-pub shape_of-slots : goal.shape_of-slots
-shape_of-slots c =
-    c.loop-i.invariant.0.size ∙ sym (ap length c.requires.slots_empty ∙ length-replicate {A = ℕ} slot_bytes 0)
-
-pub shape_of-row : goal.shape_of-row
-shape_of-row c =
-    ap length c.loop-i.invariant.1

@@ -28,16 +28,6 @@ returns-then-not-has c =
 below : (c : In-loop-i) → c.loop-i.i < 1_024
 below c = omega (arith, c.requires.signed.few, c.loop-i-test.true)
 
-pub first_after-first-requires : goal.first_after-first-requires
-first_after-first-requires c =
-    let p = c.requires in
-    record {
-      ready = record { within = p.ready.within; empty = c.loop-i.invariant.1 ∙ p.ready.empty };
-      seed = p.seed;
-      sign_is = p.signed.signs_are c.loop-i.i c.loop-i-test.true;
-      spot_is = p.sign_is;
-    }
-
 -- a clause with another slot is passed over, and one with the slot is looked at
 pub loop-i-preserved : goal.loop-i-preserved
 loop-i-preserved c =
@@ -71,47 +61,3 @@ few-left c =
 pub returns-then-left-eq0 : goal.returns-then-left-eq0
 returns-then-left-eq0 c =
     (scanning_end c.requires c.loop-i.invariant.0 c.loop-i-test.false _ (taken_out (goal.at.returns-then-left-eq0 c).After-put), c.loop-i.invariant.1, few-left (goal.at.returns-then-left-eq0 c).After-loop-i)
-
-pub returns-else-left-eq0 : goal.returns-else-left-eq0
-returns-else-left-eq0 c =
-    let given = c.requires in
-    let l = c.loop-i in
-    (scanning_end given l.invariant.0 c.loop-i-test.false _ (slots_stay given l.invariant.0 c.loop-i-test.false), l.invariant.1, few-left (goal.at.returns-else-left-eq0 c).After-loop-i)
-
-pub overflow_add-left : goal.overflow_add-left
-overflow_add-left c =
-    let first = c.first_after-first.result in
-    let one : cond (eqb first none) 1 0 ≤ 1 = at_most (eqb first none) in
-    record { fits = omega (arith, c.from-left.ensures ∙ counted (eqb first none), one, c.loop-i.invariant.0.few, below (goal.at.overflow_add-left c).In-loop-i) }
-  where
-    at_most : (b : Bool) → cond b 1 0 ≤ 1
-    at_most true = omega arith
-    at_most false = omega arith
-
-pub has-requires : goal.has-requires
-has-requires c =
-    rw c.slot-here.ensures (slot-inside _ _ c.requires.slotted.size)
-
-pub loop-i-init : goal.loop-i-init
-loop-i-init c =
-    (scanning_start c.requires, refl, c.slot-here.ensures)
-
-pub put-requires : goal.put-requires
-put-requires c =
-    rw c.slot-here.ensures (slot-inside _ _ c.requires.slotted.size)
-
-pub shape_of-slots-then-left-eq0 : goal.shape_of-slots-then-left-eq0
-shape_of-slots-then-left-eq0 c =
-    (taken_out (goal.at.shape_of-slots-then-left-eq0 c).After-put).size ∙ sym c.requires.slotted.size
-
-pub shape_of-row-then-left-eq0 : goal.shape_of-row-then-left-eq0
-shape_of-row-then-left-eq0 c =
-    ap length (returns-then-left-eq0 c).1
-
-pub shape_of-slots-else-left-eq0 : goal.shape_of-slots-else-left-eq0
-shape_of-slots-else-left-eq0 c =
-    refl
-
-pub shape_of-row-else-left-eq0 : goal.shape_of-row-else-left-eq0
-shape_of-row-else-left-eq0 c =
-    ap length (returns-else-left-eq0 c).1
