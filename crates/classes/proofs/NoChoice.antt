@@ -5,23 +5,23 @@ use mathlib.Core.Path.{◌≡◌, sym, ◌∙◌}
 use contract.Lifetimes.{Lfts}
 use denote.Triple.Clauses.{AtExit}
 use borrow.Fn.Kinds.{Dens, ended_of, res_t}
-use Rattle.classes.proofs.classes.Kinds as classes-kinds
-use Rattle.classes.proofs.classes.Reads as classes
-use Rattle.classes.proofs.is_of.Kinds as is-of-kinds
-use Rattle.classes.proofs.is_of.Reads as is-of
-use Rattle.classes.proofs.is_letter.Kinds as is-letter-kinds
-use Rattle.classes.proofs.is_letter.Reads as is-letter
-use Rattle.classes.proofs.is_white.Kinds as is-white-kinds
-use Rattle.classes.proofs.is_white.Reads as is_white
-use Rattle.classes.proofs.is_digit.Kinds as is-digit-kinds
-use Rattle.classes.proofs.is_digit.Reads as is_digit
+use Rattle.classes.proofs.Classes.new.Kinds as classes-kinds
+use Rattle.classes.proofs.Classes.new.Reads as classes
+use Rattle.classes.proofs.Classes.is_of.Kinds as is-of-kinds
+use Rattle.classes.proofs.Classes.is_of.Reads as is-of
+use Rattle.classes.proofs.Classes.is_letter.Kinds as is-letter-kinds
+use Rattle.classes.proofs.Classes.is_letter.Reads as is-letter
+use Rattle.classes.proofs.Classes.is_white.Kinds as is-white-kinds
+use Rattle.classes.proofs.Classes.is_white.Reads as is_white
+use Rattle.classes.proofs.Classes.is_digit.Kinds as is-digit-kinds
+use Rattle.classes.proofs.Classes.is_digit.Reads as is_digit
 use Rattle.classes.proofs.is_space.Kinds as is-space-kinds
 use Rattle.classes.proofs.is_space.Reads as is-space
 
 pub classes-settled : (κs : Lfts 0) (a : Dens κs classes-kinds.ps) (r q : (res_t classes-kinds.r κs).Denot)
     (s t : AtExit (ended_of 0 classes-kinds.ps classes-kinds.r) κs) → classes.Post κs a r s
     → classes.Post κs a q t
-    → r ≡ q
+    → r.of ≡ q.of
 classes-settled κs a r q s t e f = e ∙ sym f
 
 pub is_of_settled : (κs : Lfts 1) (a : Dens κs is-of-kinds.ps) (r q : (res_t is-of-kinds.r κs).Denot)

@@ -3,8 +3,8 @@
 
 mod table;
 
-ghost use Rattle.std.specs.Prelude.{◌≡◌, eqb};
-ghost use Rattle.classes.specs.Inner.Classes.{class_of, code, is_white, is_digit, table, Spelt};
+ghost use Rattle.std.specs.Prelude.{◌≡◌, true, eqb};
+ghost use Rattle.classes.specs.Inner.Classes.{class_of, code, is_letter, is_white, is_digit, table};
 
 use table::CLASSES;
 pub use table::{
@@ -12,51 +12,55 @@ pub use table::{
 };
 
 // The table. It is made once for a text and lent from there: each use of a constant array makes it anew.
-pub fn classes() -> [u8; 256]
-    ensures { result ≡ table }
-{
-    CLASSES
+#[derive(Drop)]
+pub struct Classes {
+    pub of: [u8; 256],
+    pub ghost right: { of ≡ table },
 }
 
-// The class of a byte.
-fn class_of(classes: &[u8], byte: u8) -> u8
-    requires { classes.now ≡ table }
-    ensures { result ≡ code (class_of byte) }
-{
-    classes[usize::from(byte)]
-}
+impl Classes {
+    pub fn new() -> Self
+        ensures { result.of ≡ table }
+    {
+        Self { of: CLASSES }
+    }
 
-// Whether a byte is of a class.
-pub fn is_of(classes: &[u8], byte: u8, class: u8) -> bool
-    requires { classes.now ≡ table }
-    ensures { result ≡ eqb (code (class_of byte)) class }
-{
-    class_of(classes, byte) == class
-}
+    // The class of a byte.
+    fn class_of(&self, byte: u8) -> u8
+        ensures { result ≡ code (class_of byte) }
+    {
+        self.of[usize::from(byte)]
+    }
 
-// Whether a byte is a letter. Its class tells, but for letters of the rest.
-pub fn is_letter(classes: &[u8], byte: u8, letter: u8) -> bool
-    requires { Spelt classes.now letter }
-    ensures { result ≡ eqb byte letter }
-{
-    let class = class_of(classes, byte);
-    class == class_of(classes, letter) && (class != REST || byte == letter)
-}
+    // Whether a byte is of a class.
+    pub fn is_of(&self, byte: u8, class: u8) -> bool
+        ensures { result ≡ eqb (code (class_of byte)) class }
+    {
+        self.class_of(byte) == class
+    }
 
-// Whether a byte is white space.
-pub fn is_white(classes: &[u8], byte: u8) -> bool
-    requires { classes.now ≡ table }
-    ensures { result ≡ is_white (class_of byte) }
-{
-    class_of(classes, byte) < MINUS
-}
+    // Whether a byte is a letter. Its class tells, but for letters of the rest.
+    pub fn is_letter(&self, byte: u8, letter: u8) -> bool
+        requires { is_letter (class_of letter) ≡ true }
+        ensures { result ≡ eqb byte letter }
+    {
+        let class = self.class_of(byte);
+        class == self.class_of(letter) && (class != REST || byte == letter)
+    }
 
-// Whether a byte is a digit.
-pub fn is_digit(classes: &[u8], byte: u8) -> bool
-    requires { classes.now ≡ table }
-    ensures { result ≡ is_digit (class_of byte) }
-{
-    class_of(classes, byte) > REST
+    // Whether a byte is white space.
+    pub fn is_white(&self, byte: u8) -> bool
+        ensures { result ≡ is_white (class_of byte) }
+    {
+        self.class_of(byte) < MINUS
+    }
+
+    // Whether a byte is a digit.
+    pub fn is_digit(&self, byte: u8) -> bool
+        ensures { result ≡ is_digit (class_of byte) }
+    {
+        self.class_of(byte) > REST
+    }
 }
 
 // Whether a byte is white space, by itself: for a reader to which no table is lent.
