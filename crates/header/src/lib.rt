@@ -3,12 +3,11 @@
 
 ghost use Rattle.std.specs.Prelude.{◌≡◌, ◌<◌, eqb};
 ghost use Rattle.text.specs.Inner.Numbers.{is_digit};
-ghost use Rattle.classes.specs.Inner.Classes.{table};
 ghost use Rattle.header.specs.Inner.Heads.{last_place, is_blank, is_done, is_over, is_comment, start_of, to_of, dead_of, go_of};
 ghost use Rattle.header.specs.Inner.Heads.{taken_of, most_of, line_of, comment_of, before_word_of, before_number_of, space_of, number_in};
-ghost use Rattle.header.specs.Inner.Heads.{after_of, step_at, step_of, head_of, Ready, ReadyFor, ReadyIn, Readable};
+ghost use Rattle.header.specs.Inner.Heads.{after_of, step_at, step_of, head_of, ReadyFor, ReadyIn, Lettered};
 
-use classes::{BLANK, NEWLINE, is_letter, is_of};
+use classes::{BLANK, Classes, NEWLINE};
 use text::number::{digit_of, grown};
 
 // Where in the head the reader is.
@@ -71,27 +70,24 @@ pub struct Head {
 }
 
 // Whether a byte is a space or a tab.
-fn is_blank(classes: &[u8], byte: u8) -> bool
-    requires { classes.now ≡ table }
+fn is_blank(classes: &Classes, byte: u8) -> bool
     ensures { result ≡ is_blank byte }
 {
-    is_of(classes, byte, BLANK)
+    classes.is_of(byte, BLANK)
 }
 
 // Whether a byte is a newline.
-fn is_newline(classes: &[u8], byte: u8) -> bool
-    requires { classes.now ≡ table }
+fn is_newline(classes: &Classes, byte: u8) -> bool
     ensures { result ≡ eqb byte 10 }
 {
-    is_of(classes, byte, NEWLINE)
+    classes.is_of(byte, NEWLINE)
 }
 
 // Whether a byte is a digit.
-fn is_digit(classes: &[u8], byte: u8) -> bool
-    requires { classes.now ≡ table }
+fn is_digit(classes: &Classes, byte: u8) -> bool
     ensures { result ≡ is_digit byte }
 {
-    classes::is_digit(classes, byte)
+    classes.is_digit(byte)
 }
 
 impl Head {
@@ -184,19 +180,19 @@ impl Head {
     }
 
     // At the start of a line.
-    fn line(self, classes: &[u8], byte: u8) -> Head
-        requires { Ready classes.now self.place }
+    fn line(self, classes: &Classes, byte: u8) -> Head
+        requires { self.place < last_place }
         ensures { result ≡ line_of self byte }
     {
-        if is_letter(classes, byte, b'c') {
+        if classes.is_letter(byte, b'c') {
             return self.to(Phase::At(Spot::Comment));
         }
-        self.go(is_letter(classes, byte, b'p'), Phase::At(Spot::Problem))
+        self.go(classes.is_letter(byte, b'p'), Phase::At(Spot::Problem))
     }
 
     // In a comment.
-    fn comment(self, classes: &[u8], byte: u8) -> Head
-        requires { Ready classes.now self.place }
+    fn comment(self, classes: &Classes, byte: u8) -> Head
+        requires { self.place < last_place }
         ensures { result ≡ comment_of self byte }
     {
         if is_newline(classes, byte) {
@@ -206,19 +202,19 @@ impl Head {
     }
 
     // Between `p` and the word.
-    fn before_word(self, classes: &[u8], byte: u8, letter: u8) -> Head
-        requires { ReadyFor classes.now letter self.place }
+    fn before_word(self, classes: &Classes, byte: u8, letter: u8) -> Head
+        requires { ReadyFor letter self.place }
         ensures { result ≡ before_word_of self byte letter }
     {
         if is_blank(classes, byte) {
             return self.to(Phase::At(Spot::BeforeWord));
         }
-        self.go(is_letter(classes, byte, letter), Phase::At(Spot::Second))
+        self.go(classes.is_letter(byte, letter), Phase::At(Spot::Second))
     }
 
     // Before a number.
-    fn before_number(self, classes: &[u8], byte: u8, most: u32) -> Head
-        requires { Ready classes.now self.place }
+    fn before_number(self, classes: &Classes, byte: u8, most: u32) -> Head
+        requires { self.place < last_place }
         ensures { result ≡ before_number_of self byte most }
     {
         if is_blank(classes, byte) {
@@ -248,8 +244,8 @@ impl Head {
     }
 
     // In a number.
-    fn number(self, classes: &[u8], byte: u8, most: u32) -> Head
-        requires { Ready classes.now self.place }
+    fn number(self, classes: &Classes, byte: u8, most: u32) -> Head
+        requires { self.place < last_place }
         ensures { result ≡ number_in self byte most }
     {
         if is_digit(classes, byte) {
@@ -265,8 +261,8 @@ impl Head {
     }
 
     // Behind the last number and a space.
-    fn after(self, classes: &[u8], byte: u8) -> Head
-        requires { Ready classes.now self.place }
+    fn after(self, classes: &Classes, byte: u8) -> Head
+        requires { self.place < last_place }
         ensures { result ≡ after_of self byte }
     {
         if is_blank(classes, byte) {
@@ -276,8 +272,8 @@ impl Head {
     }
 
     // One byte on, where the head is not over.
-    fn step_at(self, spot: Spot, classes: &[u8], byte: u8, form: Form) -> Head
-        requires { ReadyIn classes.now form self.place }
+    fn step_at(self, spot: Spot, classes: &Classes, byte: u8, form: Form) -> Head
+        requires { ReadyIn form self.place }
         ensures { result ≡ step_at spot form self byte }
     {
         match spot {
@@ -285,11 +281,8 @@ impl Head {
             Spot::Comment => self.comment(classes, byte),
             Spot::Problem => self.go(is_blank(classes, byte), Phase::At(Spot::BeforeWord)),
             Spot::BeforeWord => self.before_word(classes, byte, form.first),
-            Spot::Second => self.go(
-                is_letter(classes, byte, form.second),
-                Phase::At(Spot::Third),
-            ),
-            Spot::Third => self.go(is_letter(classes, byte, form.third), Phase::At(Spot::Word)),
+            Spot::Second => self.go(classes.is_letter(byte, form.second), Phase::At(Spot::Third)),
+            Spot::Third => self.go(classes.is_letter(byte, form.third), Phase::At(Spot::Word)),
             Spot::Word => self.go(is_blank(classes, byte), Phase::At(Spot::BeforeNumber)),
             Spot::BeforeNumber => self.before_number(classes, byte, self.most(form)),
             Spot::Number => self.number(classes, byte, self.most(form)),
@@ -298,8 +291,8 @@ impl Head {
     }
 
     // One byte on: hands back the advanced state.
-    pub fn step(self, classes: &[u8], byte: u8, form: Form) -> Head
-        requires { ReadyIn classes.now form self.place }
+    pub fn step(self, classes: &Classes, byte: u8, form: Form) -> Head
+        requires { ReadyIn form self.place }
         ensures { result ≡ step_of form self byte }
     {
         match self.phase {
@@ -310,8 +303,8 @@ impl Head {
 }
 
 // Reads the head of a text: up to the newline that ends the header, or to where no accepted text goes on so, or all of it.
-pub fn read(classes: &[u8], text: &[u8], form: Form) -> Head
-    requires { Readable classes.now form }
+pub fn read(classes: &Classes, text: &[u8], form: Form) -> Head
+    requires { Lettered form }
     ensures { result ≡ head_of form text.now }
 {
     let mut head = Head::start(form);

@@ -4,7 +4,7 @@
 use Rattle.std.specs.Prelude.{Bool, true, false, cond, is_none, Option, Some, None, ◌||◌, List, ◌≡◌, ℕ, ◌+◌, ◌-◌, ◌^◌, ◌<◌, eqb}
 use Rattle.laws.specs.Automata.{run}
 use Rattle.text.specs.Inner.Numbers.{is_digit, grown_of}
-use Rattle.classes.specs.Inner.Classes.{class_of, is_letter, table}
+use Rattle.classes.specs.Inner.Classes.{class_of, is_letter}
 use Rattle.header.specs.Heads.{most_before}
 use Rattle.header.specs.declared.Form.{Form}
 use Rattle.header.specs.declared.Head.{Head}
@@ -131,23 +131,11 @@ pub record Lettered (f : Form) : Type 0 where
   pub second : is_letter (class_of f.second) ≡ true
   pub third : is_letter (class_of f.third) ≡ true
 
--- what one byte on needs: the table, and a place that can still grow
-pub record Ready (classes : List ℕ) (place : ℕ) : Type 0 where
-  pub table : classes ≡ table
-  pub room : place < last_place
-
--- and a letter, or the letters of the word
-pub record ReadyFor (classes : List ℕ) (letter place : ℕ) : Type 0 where
-  pub table : classes ≡ table
+-- what one byte on needs, beside a place that can still grow: a letter, or the letters of the word
+pub record ReadyFor (letter place : ℕ) : Type 0 where
   pub own : is_letter (class_of letter) ≡ true
   pub room : place < last_place
 
-pub record ReadyIn (classes : List ℕ) (f : Form) (place : ℕ) : Type 0 where
-  pub table : classes ≡ table
+pub record ReadyIn (f : Form) (place : ℕ) : Type 0 where
   pub letters : Lettered f
   pub room : place < last_place
-
--- what a text needs: the table and the letters
-pub record Readable (classes : List ℕ) (f : Form) : Type 0 where
-  pub table : classes ≡ table
-  pub letters : Lettered f
