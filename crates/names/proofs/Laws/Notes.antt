@@ -65,13 +65,6 @@ module _ {option_list helper_list : List ℕ} {option_notes helper_notes : Notes
       go true e = f.helpers
       go false e = let h = leb-false n v e in noted-found f.helpers (n - v - 1) (omega (arith, f.most))
 
-  -- the number of an option's name, and of a helper's
-  pub within-options : n ≤ v → Within option_list option_notes (n - 1)
-  within-options h = record { count = v; noted = f.options; below = omega (arith, f.some) }
-
-  pub within-helpers : v < n → Within helper_list helper_notes (n - v - 1)
-  within-helpers h = record { count = f.count; noted = f.helpers; below = omega (arith, f.most) }
-
 -- what was looked up, from the list of the options ..
 module _ (option_list helper_list : List ℕ) (option_notes helper_notes : Notes) (v n : ℕ) {found : List ℕ} {after : Notes} where
   pub looked_option : n ≤ v → (found ≡ name_in option_list (n - 1)) × (after ≡ found_in option_list option_notes (n - 1))
@@ -108,14 +101,6 @@ module _ {list : List ℕ} {notes : Notes} {j : ℕ} (w : Within list notes j) {
 -- .. or at name j itself, once it is known where it begins
 pub reached-found : {list : List ℕ} {notes : Notes} {j at : ℕ} → Within list notes j → at ≡ place_of list j → Reached list j at
 reached-found w e = reached-noted w (omega arith) refl refl e
-
--- the reader has come to name j, and notes it
-pub found-end : {list : List ℕ} (notes : Notes) {j i at : ℕ} → Reached list i at → i ≤ j → j ≤ i
-    → (at ≡ place_of list j) × (record { begins = notes.begins; last = j; at = at } ≡ found_in list notes j)
-found-end {list} notes {j} {i} r h l =
-    let e : i ≡ j = omega arith in
-    let p = r.place ∙ ap (place_of list) e in
-    (p, ap (λ (k : ℕ). record { begins = notes.begins; last = j; at = k }) p)
 
 -- a reader that notes where each 32nd name begins: it has come to name i
 pub record Noting (list : List ℕ) (n : ℕ) (notes : Notes) (at i : ℕ) : Type 0 where

@@ -81,10 +81,6 @@ over i [] h = refl
 over i (l ∷ []) h = refl
 over i (l ∷ p ∷ ps) h = rw (le-ltb i most_nodes h)
 
-pub node_over : (text : List ℕ) (at i : ℕ) → most_nodes ≤ i
-    → next_passes (node_test i) (parted newline (drop at text)) ≡ false
-node_over text at i h = over i (parted newline (drop at text)) h
-
 module _ (text : List ℕ) (at end i : ℕ) (m : MarkAt newline text at end) (h : end ≡ length text → ⊥)
     (few : i < most_nodes) where
   abbrev pub line : List ℕ

@@ -4,13 +4,13 @@ use mathlib.Core.Path.{◌≡◌, refl, sym, ap, ◌∙◌, subst}
 use mathlib.Core.Bool.{Bool, true, false}
 use mathlib.Core.List.{List}
 use Rattle.std.specs.Prelude.{Result, Ok, Err}
-use Prim.Native.Nat.{ℕ, zero, suc, ◌+◌, ◌-◌, ◌^◌, ◌<◌}
+use Prim.Native.Nat.{ℕ, zero, suc, ◌+◌, ◌-◌, ◌<◌}
 use native.Mathlib.Omega.{arith}
-use lib.ListN.{length, drop}
+use lib.ListN.{drop}
 use Rattle.satfile.specs.Trees.{Tree, size_of, records_from}
 use Rattle.satfile.specs.Inner.Reads.{Out, Read, Bad, and_then, Leaf, Open, leaf_of, begin_in, begin_then, group_in, formula_in, list_in}
-use Rattle.satfile.specs.Inner.Stores.{Adds, Roomy}
-use Rattle.satfile.specs.Inner.Parts.{ReadTo, OpenTo, leaf_nodes, DoneTo, Tells, Readable}
+use Rattle.satfile.specs.Inner.Stores.{Adds}
+use Rattle.satfile.specs.Inner.Parts.{ReadTo, OpenTo, leaf_nodes, DoneTo, Tells}
 use Rattle.satfile.specs.declared.lead.Group.{Group}
 use Rattle.satfile.specs.declared.nested.Part.{Part}
 use Rattle.satfile.specs.declared.lead.Wrong.{Wrong}
@@ -41,9 +41,6 @@ formula-open v d l r g h e =
 -- a symbol is a formula, and its nodes are no more than its bytes
 module _ (v d : ℕ) (text : List ℕ) (from n : ℕ) (negated : Bool) {at : ℕ}
     (t : ReadTo text (begin_in v d (drop from text)) (Leaf n negated) (from + leaf_nodes negated) at) where
-  pub leaf_roomy : (i : ℕ) → Readable text from i → length text < 2 ^ 64 → Roomy i (leaf_nodes negated)
-  leaf_roomy i r h = record { last = omega (arith, r.few, t.onward, t.within) }
-
   pub leaf_done : {before after : List ℕ} {i next : ℕ} → Adds (records_from i (leaf_of n negated)) (leaf_nodes negated) before i next after
       → DoneTo text before from i (formula_in v d (drop from text)) at next after
   leaf_done {before} {after} {i} {next} a = record {
@@ -63,9 +60,6 @@ module _ (v d : ℕ) (text : List ℕ) (from n : ℕ) (negated : Bool) {at : ℕ
 
 -- a group that is opened is the formula
 module _ (v d : ℕ) (text : List ℕ) (from at : ℕ) (g : Group) (t : OpenTo text (begin_in v d (drop from text)) g from at d) where
-  pub open_readable : (i : ℕ) → Readable text from i → Readable text at i
-  open_readable i r = record { within = t.to.within; few = omega (arith, r.few, t.to.onward) }
-
   pub open_told : (before after : List ℕ) (i : ℕ) (r : Result Part Wrong) → Tells text before at i (list_in v (d - 1) g (drop at text)) r after
       → Tells text before from i (formula_in v d (drop from text)) r after
   open_told before after i (Ok p) x = record {

@@ -1,18 +1,17 @@
 -- What the call gives, by what its two readings tell.
 -- Assumes nothing.
 use mathlib.Core.Path.{◌≡◌, sym, ap, ◌∙◌}
-use mathlib.Core.Bool.{true, false}
+use mathlib.Core.Bool.{true}
 use mathlib.Core.List.{List}
-use Prim.Native.Nat.{ℕ, ◌*◌, ◌-◌, ◌≤◌, ◌<◌}
+use Prim.Native.Nat.{ℕ, ◌*◌, ◌≤◌, ◌<◌}
 use native.Mathlib.Omega.{arith}
-use lib.ListN.{length, drop, length-drop}
+use lib.ListN.{length, drop}
 use borrow.Author.Tests.{lt-ltb, le-ltb}
-use Rattle.laws.specs.Lists.{splice}
 use Rattle.answer.specs.Answers.{Wrote, stored}
 use Rattle.answer.specs.Answers.{Answer}
 use Rattle.answer.specs.Answers.{accepted_with}
 use Rattle.std.specs.Prelude.{Err}
-use Rattle.answer.specs.declared.Refusal.TheVariants.{SatText, Nodes, Room}
+use Rattle.answer.specs.declared.Refusal.TheVariants.{Room}
 use Rattle.header.specs.Inner.Heads.{is_done, head_of}
 use Rattle.header.specs.declared.Head.{Head}
 use Rattle.formula.specs.Tables.{node_bytes, most_nodes}
@@ -30,10 +29,6 @@ abbrev gave : Answer → List ℕ → Wrote (List ℕ)
 gave a l = record { answer = a; output = l }
 
 module _ (text buffer : List ℕ) (h : Head) (e : h ≡ head_of sat text) where
-  pub call_headless : is_done h.phase ≡ false → gave (Err (SatText h.place)) buffer ≡ read_call text buffer
-  call_headless n =
-      ap (λ (x : Head). gave (Err (SatText x.place)) buffer) e ∙ sym (left _ _ _ (ap (λ (x : Head). is_done x.phase) (sym e) ∙ n))
-
   -- the head is read
   module _ (d : is_done h.phase ≡ true) where
     abbrev out : Out Tree
@@ -43,12 +38,6 @@ module _ (text buffer : List ℕ) (h : Head) (e : h ≡ head_of sat text) where
     by_body =
         ap (λ (x : Head). body_call text x.value (whole_in x.value (drop x.place text)) buffer) e
         ∙ sym (taken _ _ _ (ap (λ (x : Head). is_done x.phase) (sym e) ∙ d))
-
-    pub call_wrong : {before after : List ℕ} {place : ℕ} → WrongTo text before out place after
-        → gave (Err (SatText place)) buffer ≡ read_call text buffer
-    call_wrong {place = place} w =
-        let k : place ≡ length text - length (drop place text) = omega (arith, length-drop place text, w.at.within) in
-        ap (λ (x : ℕ). gave (Err (SatText x)) buffer) k ∙ sym (ap (λ (o : Out Tree). body_call text h.value o buffer) w.at.out) ∙ by_body
 
     module _ {before after : List ℕ} {at nodes : ℕ} (x : DoneTo text before h.place 0 out at nodes after) where
       by_tree : tree_call h.value x.tree buffer ≡ read_call text buffer
@@ -64,11 +53,6 @@ module _ (text buffer : List ℕ) (h : Head) (e : h ≡ head_of sat text) where
       pub read_again : {before2 after2 : List ℕ} {place : ℕ} → WrongTo text before2 out place after2 → ⊥
       read_again y = let z : ◌≡◌ {A = ℕ} 0 1 = cc (x.to.out, y.at.out) in omega arith
 
-      pub call_many : most_nodes < nodes → gave (Err Nodes) buffer ≡ read_call text buffer
-      call_many m =
-          let over : most_nodes < size_of x.tree = omega (arith, count) in
-          sym (taken _ _ _ (lt-ltb _ _ over)) ∙ by_tree
-
       module _ (few : nodes ≤ most_nodes) where
         by_store : stored (accepted_with h.value (size_of x.tree)) (table_of x.tree) buffer ≡ read_call text buffer
         by_store =
@@ -79,17 +63,3 @@ module _ (text buffer : List ℕ) (h : Head) (e : h ≡ head_of sat text) where
         call_short m =
             let over : length buffer < length (table_of x.tree) = omega (arith, bytes) in
             sym (taken _ _ _ (lt-ltb _ _ over)) ∙ by_store
-
-        -- the second reading reads the same formula
-        pub call_stored : {at2 next2 : ℕ} {left_in : List ℕ} → node_bytes * nodes ≤ length buffer
-            → DoneTo text buffer h.place 0 out at2 next2 left_in
-            → gave (accepted_with h.value nodes) left_in ≡ read_call text buffer
-        call_stored {left_in = left_in} m y =
-            let same : y.tree ≡ x.tree = cc (x.to.out, y.to.out) in
-            let fits : node_bytes * size_of y.tree ≤ length buffer = omega (arith, count, ap size_of same) in
-            let room : length (table_of x.tree) ≤ length buffer = omega (arith, bytes) in
-            let put : left_in ≡ splice buffer 0 (table_of x.tree) =
-            y.adds.stored (omega (arith, y.adds.nodes)) ∙ ap (λ (t : Tree). splice buffer 0 (table_of t)) same in
-            ap (λ (l : List ℕ). gave (accepted_with h.value nodes) l) put
-            ∙ ap (λ (n : ℕ). gave (accepted_with h.value n) (splice buffer 0 (table_of x.tree))) (sym count)
-            ∙ sym (left _ _ _ (le-ltb _ _ room)) ∙ by_store

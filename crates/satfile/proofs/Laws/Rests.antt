@@ -9,11 +9,11 @@ use native.Mathlib.Omega.{arith}
 use lib.Dec.{eqb}
 use lib.ListN.{length, get_or, drop, drop_of_length-le}
 use lib.Seq.{drop-cons}
-use borrow.Author.Tests.{eqb-false, eq-eqb, ne_eqb, le-leb, lt-leb, lt-ltb, le-ltb}
+use borrow.Author.Tests.{eqb-false, eq-eqb, ne_eqb, le-leb, lt-ltb}
 use Rattle.text.specs.Inner.Numbers.{is_digit, grown_of}
 use Rattle.std.specs.Prelude.{Some, None}
-use Rattle.satfile.specs.Inner.Reads.{Read, Bad, and_then, is_space, skipped, grown_by, digits_from, is_first, number_in}
-use Rattle.satfile.specs.Inner.Reads.{fills, negates, Leaf, Open, one_of, operand_in, open_in, begin_in, is_whole, ends_at, is_parted}
+use Rattle.satfile.specs.Inner.Reads.{Read, Bad, is_space, skipped, grown_by, digits_from, is_first, number_in}
+use Rattle.satfile.specs.Inner.Reads.{fills, negates, operand_in, open_in, begin_in, is_whole, ends_at, is_parted}
 use Rattle.satfile.specs.declared.lead.Group.{Group}
 use Rattle.satfile.specs.declared.lead.Group.TheVariants as group
 
@@ -77,54 +77,12 @@ module _ (text : List ℕ) (i : ℕ) where
 
   -- a number from its first digit on
   module _ (v : ℕ) (h : i < length text) where
-    pub number-low : get_or text i 0 < 49 → number_in v (drop i text) ≡ Bad (drop i text)
-    number-low l =
-        let f : is_first (get_or text i 0) ≡ false = rw (lt-leb _ _ l) in
-        rw (rest-byte h) (left _ _ _ f)
-
-    pub number_high : 57 < get_or text i 0 → number_in v (drop i text) ≡ Bad (drop i text)
-    number_high l =
-        let f : is_first (get_or text i 0) ≡ false = rw (le-leb 49 (get_or text i 0) (omega arith), lt-leb _ _ l) in
-        rw (rest-byte h) (left _ _ _ f)
-
     module _ (low : 49 ≤ get_or text i 0) (high : get_or text i 0 ≤ 57) where
       is-first : is_first (get_or text i 0) ≡ true
       is-first = rw (le-leb _ _ low, le-leb _ _ high)
 
       pub number-over : v < get_or text i 0 - 48 → number_in v (drop i text) ≡ Bad (drop i text)
       number-over l = rw (rest-byte h) (taken _ _ _ is-first ∙ taken _ _ _ (lt-ltb _ _ l))
-
-      pub number-first : get_or text i 0 - 48 ≤ v → number_in v (drop i text) ≡ digits_from v (get_or text i 0 - 48) (drop (i + 1) text)
-      number-first l = rw (rest-byte h) (taken _ _ _ is-first ∙ left _ _ _ (le-ltb _ _ l))
-
-  -- a number or a parenthesis
-  module _ (v d : ℕ) (negated : Bool) where
-    pub operand-end : length text ≤ i → operand_in v d negated (drop i text) ≡ Bad (drop i text)
-    operand-end h = rw (rest_end h)
-
-    module _ (h : i < length text) where
-      pub operand-number : (get_or text i 0 ≡ 40 → ⊥)
-          → operand_in v d negated (drop i text) ≡ and_then (λ n r. Read (Leaf n negated) r) (number_in v (drop i text))
-      operand-number n = rw (rest-byte h) (left _ _ _ (ne_eqb _ _ n))
-
-      pub operand_no : get_or text i 0 ≡ 40 → fills v d ≡ false → operand_in v d negated (drop i text) ≡ Bad (drop i text)
-      operand_no e f = rw (rest-byte h) (taken _ _ _ (eq-eqb _ _ e) ∙ left _ _ _ f)
-
-      pub operand-open : get_or text i 0 ≡ 40 → fills v d ≡ true
-          → operand_in v d negated (drop i text) ≡ Read (Open (one_of negated)) (drop (i + 1) text)
-      operand-open e f = rw (rest-byte h) (taken _ _ _ (eq-eqb _ _ e) ∙ taken _ _ _ f)
-
-  -- the parenthesis of a list
-  module _ (g : Group) where
-    pub open-end : length text ≤ i → open_in g (drop i text) ≡ Bad (drop i text)
-    open-end h = rw (rest_end h)
-
-    module _ (h : i < length text) where
-      pub open_no : (get_or text i 0 ≡ 40 → ⊥) → open_in g (drop i text) ≡ Bad (drop i text)
-      open_no n = rw (rest-byte h) (left _ _ _ (ne_eqb _ _ n))
-
-      pub open-here : get_or text i 0 ≡ 40 → open_in g (drop i text) ≡ Read (Open g) (drop (i + 1) text)
-      open-here e = rw (rest-byte h) (taken _ _ _ (eq-eqb _ _ e))
 
   -- how a formula begins
   module _ (v d : ℕ) where
@@ -189,9 +147,6 @@ module _ (text : List ℕ) (i : ℕ) where
   parted-end h = rw (rest_end h)
 
   module _ (h : i < length text) where
-    pub parted-close : get_or text i 0 ≡ 41 → is_parted (drop i text) ≡ true
-    parted-close e = rw (rest-byte h) (ap (λ (s : Bool). s || is_space (get_or text i 0)) (eq-eqb _ _ e))
-
     pub parted-space : (get_or text i 0 ≡ 41 → ⊥) → is_parted (drop i text) ≡ is_space (get_or text i 0)
     parted-space n = rw (rest-byte h) (ap (λ (s : Bool). s || is_space (get_or text i 0)) (ne_eqb _ _ n))
 

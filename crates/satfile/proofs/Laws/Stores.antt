@@ -1,19 +1,19 @@
 -- Nodes that are stored one after the other: what a member, a fold and the end of a group add.
 -- Assumes nothing.
-use mathlib.Core.Path.{◌≡◌, refl, sym, ap, ◌∙◌, subst, subst⁻¹}
+use mathlib.Core.Path.{◌≡◌, refl, sym, ap, ◌∙◌, subst}
 use mathlib.Core.Bool.{Bool, true, false, cond, false≢true}
 use mathlib.Core.List.{List, [], ◌++◌, append-nil}
-use Prim.Native.Nat.{ℕ, ◌+◌, ◌*◌, ◌-◌, ◌^◌, ◌<◌}
+use Prim.Native.Nat.{ℕ, ◌+◌, ◌*◌, ◌-◌}
 use native.Mathlib.Omega.{arith}
 use lib.ListN.{length, take, drop, take-append-drop}
 use borrow.Author.Tests.{eq-eqb, ne_eqb}
 use Rattle.laws.specs.Lists.{splice}
 use Rattle.laws.proofs.Splices.{splice-splice}
 use Rattle.formula.specs.Tables.{node_bytes, node_record}
-use Rattle.satfile.specs.Trees.{Join, And, Or, Tree, Empty, Not, Joined, size_of, empty_kind, join_kind, records_from}
+use Rattle.satfile.specs.Trees.{Join, And, Or, Tree, Empty, Not, Joined, size_of, empty_kind, records_from}
 use Rattle.satfile.specs.Inner.Reads.{Partly, none, some, with_one, group_tree, join_of, leaf_of, is_full}
 use Rattle.satfile.specs.Inner.Stores.{Adds, part_records, part_nodes, join_record, fold_records, fold_nodes, empty_records, empty_nodes}
-use Rattle.satfile.specs.Inner.Stores.{end_records, end_nodes, Roomy, HasChild}
+use Rattle.satfile.specs.Inner.Stores.{end_records, end_nodes}
 use Rattle.satfile.specs.Inner.Parts.{leaf_nodes}
 use Rattle.satfile.specs.declared.lead.Group.{Group}
 use Rattle.satfile.specs.declared.lead.Group.TheVariants as group
@@ -61,74 +61,6 @@ module _ (n i : ℕ) {a b : List ℕ} (symbol : Adds (node_record 2 n 0) 1 a i (
       let k : i + 1 + 1 ≡ i + 2 = omega arith in
       subst (λ (j : ℕ). Adds (records_from i (leaf_of n true)) 2 a i j c) k
       (adds_as (ap (λ (x : ℕ). node_record 2 n 0 ++ node_record 3 x 0) q) refl (adds_then refl symbol f))
-
--- there is a number for its last node
-module _ (next : ℕ) where
-  pub roomy_one : (negated : Bool) → Roomy next (leaf_nodes negated) → next + 1 < 2 ^ 64
-  roomy_one false r = r.last
-  roomy_one true r = omega (arith, r.last)
-
-  pub roomy_two : (negated : Bool) → negated ≡ true → Roomy next (leaf_nodes negated) → next + 2 < 2 ^ 64
-  roomy_two false e r = absurd (false≢true e)
-  roomy_two true e r = r.last
-
--- a fold is a node or none
-module _ (g : Group) (i behind after : ℕ) where
-  pub fold_alone : (l : List ℕ) → behind ≡ i → Adds (fold_records g i behind after) (fold_nodes i behind) l after after l
-  fold_alone l e =
-      let z = eq-eqb behind i e in
-      adds_as (sym (ap (λ (s : Bool). cond s [] (join_record g behind after)) z)) (sym (ap (λ (s : Bool). cond s 0 1) z)) (adds_none l after)
-
-  pub fold-joined : {k : ℕ} {a b : List ℕ} → (behind ≡ i → ⊥) → k ≡ join_kind (join_of g)
-      → Adds (node_record k (behind - 1) (after - 1)) 1 a after (after + 1) b
-      → Adds (fold_records g i behind after) (fold_nodes i behind) a after (after + 1) b
-  fold-joined n e f =
-      let z = ne_eqb behind i n in
-      adds_as
-      (ap (λ (x : ℕ). node_record x (behind - 1) (after - 1)) e ∙ sym (ap (λ (s : Bool). cond s [] (join_record g behind after)) z))
-      (sym (ap (λ (s : Bool). cond s 0 1) z)) f
-
--- the constant of an empty list is a node or none
-module _ (kind i behind : ℕ) where
-  pub empty-none : (l : List ℕ) → (behind ≡ i → ⊥) → Adds (empty_records kind i behind) (empty_nodes i behind) l behind behind l
-  empty-none l n =
-      let z = ne_eqb behind i n in
-      adds_as (sym (ap (λ (s : Bool). cond s (node_record kind 0 0) []) z)) (sym (ap (λ (s : Bool). cond s 1 0) z)) (adds_none l behind)
-
-  pub empty-one : {a b : List ℕ} → behind ≡ i → Adds (node_record kind 0 0) 1 a behind (behind + 1) b
-      → Adds (empty_records kind i behind) (empty_nodes i behind) a behind (behind + 1) b
-  empty-one e f =
-      let z = eq-eqb behind i e in
-      adds_as (sym (ap (λ (s : Bool). cond s (node_record kind 0 0) []) z)) (sym (ap (λ (s : Bool). cond s 1 0) z)) f
-
--- what the end of each group adds
-module _ {g : Group} (i behind : ℕ) where
-  ends_as : {h : Group} {k : ℕ} {a b : List ℕ} → g ≡ h → Adds (end_records h i behind) (end_nodes h i behind) a behind k b
-      → Adds (end_records g i behind) (end_nodes g i behind) a behind k b
-  ends_as {h} {k} {a} {b} e f = subst⁻¹ (λ (x : Group). Adds (end_records x i behind) (end_nodes x i behind) a behind k b) e f
-
-  module _ {k : ℕ} {a b : List ℕ} where
-    pub end_and : g ≡ group.And → Adds (empty_records (empty_kind And) i behind) (empty_nodes i behind) a behind k b
-        → Adds (end_records g i behind) (end_nodes g i behind) a behind k b
-    end_and e f = ends_as e f
-
-    pub end_or : g ≡ group.Or → Adds (empty_records (empty_kind Or) i behind) (empty_nodes i behind) a behind k b
-        → Adds (end_records g i behind) (end_nodes g i behind) a behind k b
-    end_or e f = ends_as e f
-
-    pub end-not : g ≡ group.Not → Adds (node_record 3 (behind - 1) 0) 1 a behind k b
-        → Adds (end_records g i behind) (end_nodes g i behind) a behind k b
-    end-not e f = ends_as e f
-
-  module _ (l : List ℕ) where
-    pub end-one : g ≡ group.One → Adds (end_records g i behind) (end_nodes g i behind) l behind behind l
-    end-one e = ends_as e (adds_none l behind)
-
-    pub end_whole : g ≡ group.Whole → Adds (end_records g i behind) (end_nodes g i behind) l behind behind l
-    end_whole e = ends_as e (adds_none l behind)
-
-pub child_of_not : {g : Group} (behind : ℕ) → g ≡ group.Not → HasChild g behind → 0 < behind
-child_of_not behind e h = subst (λ (x : Group). HasChild x behind) e h
 
 -- the records of two formulas that are joined
 joined_records : (g : Group) (i : ℕ) (s t : Tree) (behind after : ℕ) → behind ≡ i + size_of s → after ≡ behind + size_of t

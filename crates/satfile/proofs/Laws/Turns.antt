@@ -3,7 +3,7 @@
 use mathlib.Core.Path.{◌≡◌, refl, sym, ap, ◌∙◌}
 use mathlib.Core.Bool.{Bool, true, false, cond, not, ◌||◌, false≢true}
 use mathlib.Core.List.{List, [], ◌∷◌}
-use Prim.Native.Nat.{ℕ, suc, ◌+◌, ◌-◌, ◌^◌, ◌≤◌, ◌<◌}
+use Prim.Native.Nat.{ℕ, suc, ◌+◌, ◌-◌, ◌≤◌, ◌<◌}
 use native.Mathlib.Omega.{arith}
 use lib.Dec.{eqb, ltb}
 use lib.ListN.{length, get_or, drop, length-drop}
@@ -12,8 +12,8 @@ use borrow.Author.Tests.{eq-eqb, ne_eqb, eqb-true, eqb-false, ltb-true, ltb-fals
 use Rattle.satfile.specs.Inner.Reads.{Read, is_space, skipped, Partly, none, some, is_begun, is_many, takes, is_full, is_whole, ends_at}
 use Rattle.satfile.specs.Inner.Reads.{behind, with_one, group_tree, is_parted, group_from, formula_in, list_in}
 use Rattle.satfile.specs.Inner.Stores.{Adds, part_records, part_nodes, fold_records, fold_nodes, empty_nodes, end_records}
-use Rattle.satfile.specs.Inner.Stores.{end_nodes, HasChild, Ending, Folding}
-use Rattle.satfile.specs.Inner.Parts.{Skipped, DoneTo, WrongTo, Readable}
+use Rattle.satfile.specs.Inner.Stores.{end_nodes}
+use Rattle.satfile.specs.Inner.Parts.{Skipped, DoneTo, WrongTo}
 use Rattle.satfile.specs.declared.lead.Group.{Group}
 use Rattle.satfile.specs.declared.lead.Group.TheVariants as group
 use Rattle.satfile.proofs.Laws.Groups as steps
@@ -87,15 +87,6 @@ end-few group.One i node = omega arith
 end-few group.Not i node = omega arith
 end-few group.Whole i node = omega arith
 
-child_of : {xs before after : List ℕ} {i next : ℕ} (g : Group) (p : Partly) → is_full g p ≡ true
-    → Adds xs (part_nodes p) before i next after → HasChild g next
-child_of group.And p f a = tt
-child_of group.Or p f a = tt
-child_of group.One p f a = tt
-child_of group.Not none f a = absurd (false≢true f)
-child_of group.Not (some t) f a = omega (arith, a.nodes, size-some t)
-child_of group.Whole p f a = tt
-
 -- a group that was begun at `at` with node i, and read up to a place and a node
 pub record Grouping (v d : ℕ) (g : Group) (text before : List ℕ) (at i : ℕ) (table : List ℕ) (place node : ℕ) : Type 0 where
   pub fuel : ℕ
@@ -159,10 +150,6 @@ module _ {v d : ℕ} {g : Group} {text before : List ℕ} {at i : ℕ} where
       same = w.adds.same;
     }
 
-    -- a formula may be read from here on
-    pub group_readable : i ≤ at → Readable text place node
-    group_readable h = record { within = w.within; few = omega (arith, w.few) }
-
     -- a member is read
     module _ (e : ends_at g (drop place text) ≡ false) (f : takes g w.part ≡ true) where
       pub group_wrong : {p : ℕ} {after : List ℕ} → WrongTo text table (formula_in v d (drop place text)) p after
@@ -196,20 +183,6 @@ module _ {v d : ℕ} {g : Group} {text before : List ℕ} {at i : ℕ} where
         no_close b q =
             let h : place < length text = omega (arith, ahead, x.to.within) in
             eqb-false (get_or text place 0) 41 (sym (ends_close text place g h (whole-not g (many_of g w.part f b))) ∙ e) q
-
-        -- there is a number for the node that joins
-        pub group_folding : i ≤ at → length text < 2 ^ 64 → Folding i node after
-        group_folding h b = record {
-          began = omega (arith, w.adds.nodes);
-          more = omega (arith, x.adds.nodes);
-          last = go (is_begun w.part) refl;
-        }
-          where
-            go : (b : Bool) → is_begun w.part ≡ b → (node ≡ i → ⊥) → after + 1 < 2 ^ 64
-            go true q n =
-                let k : place < length text = omega (arith, ahead, x.to.within) in
-                omega (arith, x.few, w.wide q k (no_close q), x.to.within)
-            go false q n = absurd (n (eqb-true node i (begun_by w.part w.adds ∙ ap not q)))
 
         -- the numbers of nodes behind the fold
         module _ {node2 : ℕ} {table2 : List ℕ} (y : Adds (fold_records g i node after) (fold_nodes i node) stored after node2 table2) where
@@ -256,12 +229,6 @@ module _ {v d : ℕ} {g : Group} {text before : List ℕ} {at i : ℕ} where
           go false q = absurd (false≢true (sym n ∙ sym (ends-end text place g (ltb-false place (length text) q)) ∙ e))
 
       module _ (f : is_full g w.part ≡ true) where
-        pub group_ending : i ≤ at → length text < 2 ^ 64 → Ending g node
-        group_ending h b = record {
-          child = child_of g w.part f w.adds;
-          last = λ n. omega (arith, w.few, closes_within n);
-        }
-
         module _ {past : ℕ} (q : past ≡ cond (is_whole g) place (place + 1)) where
           past-within : past ≤ length text
           past-within = go (is_whole g) refl

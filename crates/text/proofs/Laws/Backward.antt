@@ -2,7 +2,7 @@
 -- Assumes nothing.
 use mathlib.Core.Path.{◌≡◌, refl, sym, ap, ◌∙◌}
 use mathlib.Core.Bool.{Bool, true, false}
-use mathlib.Core.List.{List, [], ◌∷◌, ◌++◌, append_assoc, append-nil}
+use mathlib.Core.List.{List, [], ◌∷◌, ◌++◌, append_assoc}
 use Prim.Native.Nat.{ℕ, suc, ◌+◌, ◌/◌, ◌%◌, ◌≤◌, ◌<◌}
 use native.Mathlib.Numerals.{add-one}
 use native.Mathlib.Omega.{arith}
@@ -11,9 +11,7 @@ use lib.Dec.{ltb}
 use lib.ListN.{length, set, take, drop, length-append}
 use lib.Seq.{set_split, take-append-le, take-take, drop_at, length-take-le}
 use Rattle.laws.specs.Lists.{splice}
-use Rattle.laws.specs.Inner.Stores.{Stored}
 use Rattle.laws.proofs.Splices.{length-splice}
-use Rattle.laws.proofs.Stored.{stored-nothing}
 use Rattle.text.specs.Texts.{decimal}
 use Rattle.text.proofs.Laws.Decimals.{decimal-one, decimal-last}
 
@@ -56,16 +54,6 @@ pub record Backward (number : ℕ) (l : List ℕ) (at rest i : ℕ) (m : List �
   pub list : m ≡ splice l i tail
 
 module _ (number : ℕ) (l : List ℕ) (at : ℕ) (room : at + length (decimal number) ≤ length l) where
-  pub backward_start : (i : ℕ) → i ≡ at + length (decimal number) → Backward number l at number i l
-  backward_start i e = record {
-    front = decimal number;
-    tail = [];
-    split = sym (append-nil (decimal number));
-    place = e;
-    left = λ h. refl;
-    list = (stored-nothing l i).list;
-  }
-
   module _ {rest i : ℕ} {m : List ℕ} (b : Backward number l at rest i m) where
     -- what is written lies inside
     within : i + length b.tail ≤ length l
@@ -87,14 +75,3 @@ module _ (number : ℕ) (l : List ℕ) (at : ℕ) (room : at + length (decimal n
               ap (λ (x : List ℕ). set x j d) (b.list ∙ ap (λ (q : ℕ). splice l q b.tail) k)
               ∙ set_before l j d b.tail (omega (arith, within));
         }
-
-    pub backward_end : (end : ℕ) → end ≡ at + length (decimal number) → i ≤ at → Stored (decimal number) l at end m
-    backward_end end e h =
-        let none : b.front ≡ [] = empty b.front (omega (arith, b.place)) in
-        let k : i ≡ at = omega (arith, b.place) in
-        let whole : b.tail ≡ decimal number = sym (b.split ∙ ap (λ (x : List ℕ). x ++ b.tail) none) in
-        record { place = e; list = b.list ∙ (λ j. splice l (k j) (whole j)) }
-      where
-        empty : (xs : List ℕ) → length xs ≡ 0 → xs ≡ []
-        empty [] z = refl
-        empty (x ∷ xs) z = absurd (omega arith)

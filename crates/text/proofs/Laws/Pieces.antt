@@ -14,7 +14,7 @@ use Rattle.std.specs.Prelude.{Option, Some, None}
 use Rattle.laws.specs.Lists.{Every, none, more}
 use Rattle.laws.proofs.Choices.{both}
 use Rattle.text.specs.Texts.{decimal, value_of, is_number, ahead, parted, joined}
-use Rattle.text.specs.Inner.Numbers.{is_digit, number_of}
+use Rattle.text.specs.Inner.Numbers.{is_digit}
 use Rattle.text.specs.Inner.Pieces.{spot, MarkAt, piece_at, field_at}
 use Rattle.text.specs.declared.piece.Field.{Field}
 use Rattle.text.proofs.Laws.Fields.{decimal-digits}
@@ -135,30 +135,7 @@ module _ (mark : ℕ) where
       let k : end - 0 ≡ end = omega arith in
       parted-next m ∙ ap (λ (n : ℕ). take n t ∷ pieces_at mark t (end + 1)) k
 
--- what is found of a number, as a field
-abbrev pub field_of : Option ℕ → ℕ → Option Field
-field_of None next = None
-field_of (Some v) next = Some (record { value = v; next = next })
-
 module _ (mark most : ℕ) (t : List ℕ) (at : ℕ) where
-  -- the field from a place on, by the mark that is found
-  pub field_past : length t < at → None ≡ field_at mark most t at
-  field_past h = rw (lt-leb at (length t) h)
-
-  pub field_found : {end : ℕ} (x : Option ℕ) → MarkAt mark t at end → x ≡ number_of most (take (end - at) (drop at t))
-      → field_of x (end + 1) ≡ field_at mark most t at
-  field_found {end} x m e =
-      let k : end - at ≡ spot mark (drop at t) = omega (arith, m.place) in
-      let n : end + 1 ≡ at + spot mark (drop at t) + 1 = omega (arith, m.place) in
-      let piece = piece_at mark t at in
-      (λ i. field_of ((e ∙ ap (λ (j : ℕ). number_of most (take j (drop at t))) k) i) (n i))
-      ∙ rw (le-leb at (length t) (omega (arith, m.behind, m.within))) (go (is_number most piece))
-    where
-      go : (b : Bool) → field_of (cond b (Some (value_of (piece_at mark t at))) None) (at + spot mark (drop at t) + 1)
-          ≡ cond b (Some (record { value = value_of (piece_at mark t at); next = at + spot mark (drop at t) + 1 })) None
-      go true = refl
-      go false = refl
-
   -- what is found: the piece is no number, or there is none ..
   pub data NoField : Type 0 where
     missing : pieces_at mark t at ≡ [] → NoField

@@ -1,6 +1,6 @@
 -- `satfile::lead::digits` meets its contract: digits are taken in one by one. The invariant: what is left, behind the digits so far, is
 -- read as the whole is. Assumes nothing.
-use mathlib.Core.Path.{◌≡◌, refl, sym, ap, ◌∙◌, subst}
+use mathlib.Core.Path.{◌≡◌, sym, ap, ◌∙◌, subst}
 use mathlib.Core.Bool.{true}
 use Prim.Native.Nat.{ℕ, ◌-◌}
 use native.Mathlib.Omega.{arith}
@@ -59,7 +59,3 @@ returns c =
       onward = c.loop-i.invariant.0;
       within = c.loop-i.invariant.1;
     })
-
-pub loop-i-init : goal.loop-i-init
-loop-i-init c =
-    (omega arith, c.requires, refl)

@@ -1,6 +1,6 @@
 -- `satfile::lead::skip` meets its contract: white space is passed byte by byte. The invariant: what is left has the same text behind
 -- its white space. Assumes nothing.
-use mathlib.Core.Path.{◌≡◌, refl, sym, ◌∙◌, subst}
+use mathlib.Core.Path.{◌≡◌, sym, ◌∙◌, subst}
 use lib.ListN.{length}
 use Rattle.satfile.specs.Inner.Parts.{Skipped}
 use native.Mathlib.Omega.{arith}
@@ -36,7 +36,3 @@ returns c =
       onward = c.loop-i.invariant.0;
       within = c.loop-i.invariant.1;
     })
-
-pub loop-i-init : goal.loop-i-init
-loop-i-init c =
-    (omega arith, c.requires, refl)
