@@ -11,6 +11,7 @@ ghost use Rattle.satfile.specs.Texts.{sat};
 ghost use Rattle.satfile.specs.Inner.Calls.{read_call};
 
 use answer::{Accepted, Answer, Refusal};
+use classes::Classes;
 use formula::node::{MOST_NODES, MOST_OPTIONS, NODE_BYTES};
 use header::Form;
 use lead::{Group, Wrong};
@@ -46,7 +47,7 @@ fn sat_form() -> Form
 pub fn read(text: &[u8], table: &mut [u8]) -> Answer
     ensures { record { answer = result; output = table.new } ≡ read_call text.now table.old }
 {
-    let classes = classes::classes();
+    let classes = Classes::new();
     let head = header::read(&classes, text, sat_form());
     let from = head.place;
     if !head.is_done() {
