@@ -28,17 +28,8 @@ buffer-of c = c.args.clauses.now
 lettered : (f : Form) → f ≡ cnf → Lettered f
 lettered f e = subst⁻¹ Lettered e (record { first = refl; second = refl; third = refl })
 
-pub read-head-requires : goal.read-head-requires
-read-head-requires c =
-    record { table = c.classes-classes.ensures; letters = lettered c.cnf_form.result c.cnf_form.ensures }
-
 head : (c : After-read-head) → c.read-head.result ≡ head_of cnf (text_of c)
 head c = c.read-head.ensures ∙ ap (λ f. head_of f (text_of c)) c.cnf_form.ensures
-
-pub returns-then-not-is_done : goal.returns-then-not-is_done
-returns-then-not-is_done c =
-    read_headless (text_of (goal.at.returns-then-not-is_done c).After-read-head) (buffer-of (goal.at.returns-then-not-is_done c).After-read-head) (head (goal.at.returns-then-not-is_done c).After-read-head)
-    (sym c.is_done.ensures ∙ c.if-not-is_done.true)
 
 pub check-end-requires : goal.check-end-requires
 check-end-requires c =
@@ -61,11 +52,6 @@ seen c =
       read = c.check-end.ensures ∙ ap (λ (s : State). state_from s (text_of (goal.at.After-check-end c).After-read-head) s.place) c.start-start.ensures;
     }
 
-pub returns-then-not-is_accepted : goal.returns-then-not-is_accepted
-returns-then-not-is_accepted c =
-    read-refused (buffer-of (goal.at.returns-then-not-is_accepted c).After-read-head) (seen (goal.at.returns-then-not-is_accepted c).After-check-end)
-    (sym c.is_accepted.ensures ∙ c.if-not-is_accepted.true)
-
 -- it is accepted
 accepted : (c : Else-not-is_accepted) → accepts c.check-end.result ≡ true
 accepted c = sym c.is_accepted.ensures ∙ c.if-not-is_accepted.false
@@ -84,11 +70,3 @@ copy-requires c =
       accepted = ap accepts (sym (seen (goal.at.copy-requires c).After-check-end).read) ∙ accepted (goal.at.copy-requires c).Else-not-is_accepted;
       room = read-room (buffer-of (goal.at.copy-requires c).After-read-head) (seen (goal.at.copy-requires c).After-check-end) (accepted (goal.at.copy-requires c).Else-not-is_accepted) (room (goal.at.copy-requires c).Else-clauses-room);
     }
-
-pub returns : goal.returns
-returns c =
-    read-accepted (buffer-of (goal.at.returns c).After-read-head) (seen (goal.at.returns c).After-check-end) (accepted (goal.at.returns c).Else-not-is_accepted) (room (goal.at.returns c).Else-clauses-room) c.copy.ensures
-
-pub slice_bounds-copy-end : goal.slice_bounds-copy-end
-slice_bounds-copy-end c =
-    sym (ap length c.classes-classes.ensures ∙ length-table)

@@ -12,10 +12,6 @@ first-few c = omega (arith, c.width.ensures, width-least c.args.variables c.rang
 second-few : (c : After-width-2) → c.width-2.result ≤ 10
 second-few c = omega (arith, c.width-2.ensures, width-least c.args.count c.ranges.count.fits)
 
-pub returns : goal.returns
-returns c =
-    omega (arith, c.width-2.ensures, c.width.ensures, length-header c.args.variables c.args.count)
-
 pub overflow_add-result : goal.overflow_add-result
 overflow_add-result c =
     omega (arith, first-few c)

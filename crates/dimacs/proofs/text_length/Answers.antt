@@ -32,8 +32,3 @@ lines_size-requires c =
 pub size-requires : goal.size-requires
 size-requires c =
     found-lines (found (goal.at.size-requires c).In-Some) _ c.lines_size.ensures
-
-pub returns-in-None : goal.returns-in-None
-returns-in-None c =
-    let x = c.args in length-wrong x.clauses.now x.variables
-    (sym c.check.ensures ∙ c.in-None.is)

@@ -28,10 +28,6 @@ pub returns-then-text-size : goal.returns-then-text-size
 returns-then-text-size c =
     found_no_room (found (goal.at.returns-then-text-size c).In-Some) c.args.text.now _ (sized (goal.at.returns-then-text-size c).After-size) c.if-text-size.true
 
-pub put_text-requires : goal.put_text-requires
-put_text-requires c =
-    found-room (found (goal.at.put_text-requires c).In-Some) c.args.text.now _ (sized (goal.at.put_text-requires c).After-size) c.if-text-size.false
-
 pub returns : goal.returns
 returns c =
     let buffer = c.args.text.now in
@@ -45,8 +41,3 @@ lines_size-requires c =
 pub size-requires : goal.size-requires
 size-requires c =
     found-lines (found (goal.at.size-requires c).In-Some) _ c.lines_size.ensures
-
-pub returns-in_default : goal.returns-in_default
-returns-in_default c =
-    let x = c.args in
-    found-refused x.clauses.now x.variables x.text.now (sym c.check.ensures ∙ c.in_default.is)

@@ -107,34 +107,9 @@ last-room c =
     c.loop-i.invariant
     c.loop-i-test.false)
 
-pub shape_of-out : goal.shape_of-out
-shape_of-out c =
-    stored-length (last-room (goal.at.shape_of-out c).After-word-2) c.put_word.ensures ∙ same (goal.at.shape_of-out c).At-loop-i
-
 pub returns : goal.returns
 returns c =
     copied_end (text (goal.at.returns c).At-loop-i) (begin (goal.at.returns c).At-loop-i) c.args.out.now c.requires.room (pen (goal.at.returns c).At-loop-i) c.loop-i.i c.loop-i.at c.loop-i.out
     c.loop-i.invariant
     c.loop-i-test.false c.put_word.result c.put_word.new.out
     (stored_as (ap (written (pen (goal.at.returns c).At-loop-i).begun) (sym c.word-2.ensures)) c.put_word.ensures)
-
-pub loop-i-init : goal.loop-i-init
-loop-i-init c =
-    copied_start c.args.text.now c.args.from c.args.variables
-    c.args.declared c.args.out.now c.start-pen.result c.start-pen.ensures c.requires.accepted
-
-pub bounds-text-i : goal.bounds-text-i
-bounds-text-i c =
-    c.loop-i-test.true
-
-pub is_digit-requires : goal.is_digit-requires
-is_digit-requires c =
-    c.requires.table
-
-pub is_white-requires : goal.is_white-requires
-is_white-requires c =
-    c.requires.table
-
-pub put_word-requires : goal.put_word-requires
-put_word-requires c =
-    last-room c

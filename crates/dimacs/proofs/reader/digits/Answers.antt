@@ -13,25 +13,9 @@ use Rattle.dimacs.proofs.Laws.Tokens.{digit-leads, digit-place, digit-number}
 use Rattle.dimacs.proofs.reader.digits.Goals.{After-grow-state, Else-is_dead, Else-not-is_digit}
 use Rattle.dimacs.proofs.reader.digits.Goals as goal
 
-pub returns-then-not-is_digit : goal.returns-then-not-is_digit
-returns-then-not-is_digit c =
-    let l = c.loop-state in
-    record {
-      leads = l.invariant.0;
-      next = inr l.invariant.1;
-      stops = λ _ _. sym c.is_digit.ensures ∙ c.if-not-is_digit.true;
-    }
-
 -- a digit
 is : (c : Else-not-is_digit) → is_digit (class_of (next_in c.args.text.now c.loop-state.state)) ≡ true
 is c = sym c.is_digit.ensures ∙ c.if-not-is_digit.false
-
-pub grow-state-requires : goal.grow-state-requires
-grow-state-requires c =
-    record {
-      place = omega (arith, c.loop-state-test.true);
-      least = digit-least (next_in c.args.text.now c.loop-state.state) (is c);
-    }
 
 grown : (c : After-grow-state) → Leads c.args.text.now c.args.start c.grow-state.result
 grown c =
@@ -47,36 +31,9 @@ returns-then-is_dead c =
 live : (c : Else-is_dead) → is_dead c.grow-state.result.phase ≡ false
 live c = sym c.is_dead.ensures ∙ c.if-is_dead.false
 
-pub loop-state-smaller : goal.loop-state-smaller
-loop-state-smaller c =
-    let inside = c.loop-state-test.true in
-    omega (
-      arith,
-      inside,
-      digit-place c.args.text.now c.loop-state.state c.grow-state.result inside
-          c.loop-state.invariant.1 (is (goal.at.loop-state-smaller c).Else-not-is_digit) c.grow-state.ensures (live c),
-    )
-
 pub loop-state-preserved : goal.loop-state-preserved
 loop-state-preserved c = (
   grown (goal.at.loop-state-preserved c).After-grow-state,
   digit-number c.args.text.now c.loop-state.state c.grow-state.result c.loop-state-test.true
       c.loop-state.invariant.1 (is (goal.at.loop-state-preserved c).Else-not-is_digit) c.grow-state.ensures (live c),
 )
-
-pub returns : goal.returns
-returns c =
-    let l = c.loop-state in
-    record { leads = l.invariant.0; next = inr l.invariant.1; stops = λ _ h. absurd (omega (arith, h, c.loop-state-test.false)) }
-
-pub loop-state-init : goal.loop-state-init
-loop-state-init c =
-    (leads-none c.args.text.now c.args.start c.requires.place, c.requires.number)
-
-pub bounds-text-i : goal.bounds-text-i
-bounds-text-i c =
-    c.loop-state-test.true
-
-pub is_digit-requires : goal.is_digit-requires
-is_digit-requires c =
-    c.requires.table

@@ -21,20 +21,10 @@ is_digit c = sym c.is_of.ensures ∙ c.if-is_of.true
 no_digit : (c : Else-is_of) → eqb (Code (goal.at.Else-is_of c).Start) 10 ≡ false
 no_digit c = sym c.is_of.ensures ∙ c.if-is_of.false
 
-pub begin-requires : goal.begin-requires
-begin-requires c =
-    let b = next_in c.args.text.now c.args.start in
-    record { place = omega (arith, c.requires.place); least = digit-least b (digit-is (class_of b) (is_digit c)) }
-
 pub returns-then-is_of : goal.returns-then-is_of
 returns-then-is_of c =
     literal-plain c.args.text.now c.args.start c.begin.result c.requires.place c.requires.phase (is_digit (goal.at.returns-then-is_of c).Then-is_of)
     c.begin.ensures
-
-pub returns-then-not-is_of : goal.returns-then-not-is_of
-returns-then-not-is_of c =
-    literal-wrong c.args.text.now c.args.start c.dead.result c.requires.place c.requires.phase c.requires.apart c.requires.some
-    (no_digit (goal.at.returns-then-not-is_of c).Else-is_of) (sym c.is_of-2.ensures ∙ c.if-not-is_of.true) c.dead.ensures
 
 is-minus : (c : After-turn-sign) → eqb (Code (goal.at.After-turn-sign c).Start) 3 ≡ true
 is-minus c =
@@ -61,11 +51,6 @@ returns-then-not-is_of-2 c =
 
 is-lead : (c : Else-not-is_of-2) → eqb (code (class_of (next_in c.args.text.now c.turn-sign.result))) 10 ≡ true
 is-lead c = sym c.is_of-3.ensures ∙ c.if-not-is_of-2.false
-
-pub lead-requires : goal.lead-requires
-lead-requires c =
-    let b = next_in c.args.text.now c.turn-sign.result in
-    record { place = omega (arith, c.if-i-text.false); least = digit-least b (digit-is (class_of b) (is-lead c)) }
 
 pub returns : goal.returns
 returns c =

@@ -8,29 +8,6 @@ use Rattle.dimacs.proofs.Laws.Tokens.{spelt_begun, spelt_over, spelt_wrong, spel
 use Rattle.dimacs.proofs.reader.literal.Goals.{Else-is_dead}
 use Rattle.dimacs.proofs.reader.literal.Goals as goal
 
-pub returns-then-not-is_number : goal.returns-then-not-is_number
-returns-then-not-is_number c =
-    spelt_begun c.args.text.now c.args.start c.first-begun.result c.first-begun.ensures
-    (sym c.is_number.ensures ∙ c.if-not-is_number.true)
-
-pub digits-end-requires : goal.digits-end-requires
-digits-end-requires c =
-    record {
-      table = c.requires.table;
-      place = c.first-begun.ensures.leads.within;
-      number = sym c.is_number.ensures ∙ c.if-not-is_number.false;
-    }
-
-pub returns-then-is_dead : goal.returns-then-is_dead
-returns-then-is_dead c =
-    spelt_over c.args.text.now c.args.start c.first-begun.result c.digits-end.result c.first-begun.ensures
-    c.digits-end.ensures (dead (sym c.is_dead.ensures ∙ c.if-is_dead.true))
-
-pub returns-then-i-text : goal.returns-then-i-text
-returns-then-i-text c =
-    spelt_over c.args.text.now c.args.start c.first-begun.result c.digits-end.result c.first-begun.ensures
-    c.digits-end.ensures (end c.if-i-text.true)
-
 -- the byte behind it
 live : (c : Else-is_dead) → is_dead c.digits-end.result.phase ≡ false
 live c = sym c.is_dead.ensures ∙ c.if-is_dead.false
@@ -40,9 +17,3 @@ returns-then-not-is_white c =
     spelt_wrong c.args.text.now c.args.start c.first-begun.result c.digits-end.result c.first-begun.ensures
     c.digits-end.ensures (live (goal.at.returns-then-not-is_white c).Else-is_dead) (omega (arith, c.if-i-text.false)) c.dead.result
     (sym c.is_white.ensures ∙ c.if-not-is_white.true) c.dead.ensures
-
-pub returns : goal.returns
-returns c =
-    spelt_white c.args.text.now c.args.start c.first-begun.result c.digits-end.result c.first-begun.ensures
-    c.digits-end.ensures (live (goal.at.returns c).Else-is_dead) (omega (arith, c.if-i-text.false))
-    (sym c.is_white.ensures ∙ c.if-not-is_white.false)

@@ -7,19 +7,9 @@ use Rattle.dimacs.proofs.Laws.Tokens.{zero-dead, zero-end, zero-wrong, zero-apar
 use Rattle.dimacs.proofs.reader.zero.Goals.{Else-is_dead}
 use Rattle.dimacs.proofs.reader.zero.Goals as goal
 
-pub returns-then-is_dead : goal.returns-then-is_dead
-returns-then-is_dead c =
-    zero-dead c.args.text.now c.args.start c.close-closed.result c.requires.place c.requires.phase c.requires.zero
-    c.close-closed.ensures (sym c.is_dead.ensures ∙ c.if-is_dead.true)
-
 -- a clause is closed
 live : (c : Else-is_dead) → is_dead c.close-closed.result.phase ≡ false
 live c = sym c.is_dead.ensures ∙ c.if-is_dead.false
-
-pub returns-then-i-text : goal.returns-then-i-text
-returns-then-i-text c =
-    zero-end c.args.text.now c.args.start c.close-closed.result c.requires.place c.requires.phase c.requires.zero
-    c.close-closed.ensures (live (goal.at.returns-then-i-text c).Else-is_dead) c.if-i-text.true
 
 pub returns-then-not-is_white : goal.returns-then-not-is_white
 returns-then-not-is_white c =

@@ -27,7 +27,3 @@ pub overflow_add-size : goal.overflow_add-size
 overflow_add-size c =
     let short = word-short c.word_at.result (omega (arith, c)) in
     omega (arith, c.loop-i.invariant.small, c.word_size-size.ensures, short, c.requires)
-
-pub loop-i-init : goal.loop-i-init
-loop-i-init c =
-    sizing_start _

@@ -31,16 +31,3 @@ returns c =
     stored-both word (first (goal.at.returns c).Start ++ second (goal.at.returns c).Start) c.args.text.now 0 (room (goal.at.returns c).Start) c.put_bytes-first.ensures
     (stored-both (first (goal.at.returns c).Start) (second (goal.at.returns c).Start) c.put_bytes-first.new.text c.put_bytes-first.result (fields (goal.at.returns c).After-put_bytes-first) c.put_field-second.ensures
     c.put_field.ensures)
-
-pub put_bytes-first-requires : goal.put_bytes-first-requires
-put_bytes-first-requires c =
-    room-left word (first (goal.at.put_bytes-first-requires c).Start ++ second (goal.at.put_bytes-first-requires c).Start) c.args.text.now 0 (room (goal.at.put_bytes-first-requires c).Start)
-
-pub put_field-second-requires : goal.put_field-second-requires
-put_field-second-requires c =
-    room-left (first (goal.at.put_field-second-requires c).Start) (second (goal.at.put_field-second-requires c).Start) c.put_bytes-first.new.text _ (fields (goal.at.put_field-second-requires c).After-put_bytes-first)
-
-pub put_field-requires : goal.put_field-requires
-put_field-requires c =
-    room-right (first (goal.at.put_field-requires c).Start) (second (goal.at.put_field-requires c).Start)
-    c.put_bytes-first.new.text _ (fields (goal.at.put_field-requires c).After-put_bytes-first) c.put_field-second.ensures

@@ -26,12 +26,3 @@ returns c =
     let w : Stored (lines (goal.at.returns c).Start) c.put_header-at.new.text c.put_header-at.result _ c.put_words.new.text =
     record { place = refl; list = c.put_words.ensures } in
     (stored-both (head (goal.at.returns c).Start) (lines (goal.at.returns c).Start) c.args.text.now 0 (room (goal.at.returns c).Start) c.put_header-at.ensures w).list
-
-pub put_header-at-requires : goal.put_header-at-requires
-put_header-at-requires c =
-    omega (arith, room-left (head (goal.at.put_header-at-requires c).Start) (lines (goal.at.put_header-at-requires c).Start) c.args.text.now 0 (room (goal.at.put_header-at-requires c).Start))
-
-pub put_words-requires : goal.put_words-requires
-put_words-requires c =
-    room-right (head (goal.at.put_words-requires c).Start) (lines (goal.at.put_words-requires c).Start)
-    c.args.text.now 0 (room (goal.at.put_words-requires c).Start) c.put_header-at.ensures

@@ -31,31 +31,11 @@ negated-room : (c : Else-word-lt-SIGN) → Room (goal.at.Else-word-lt-SIGN c).St
 negated-room c =
     subst (Room (goal.at.Else-word-lt-SIGN c).Start) (negated_text c.args.word c.if-word-eq0.false c.if-word-lt-SIGN.false) c.requires
 
--- a zero
-pub put_byte-requires : goal.put_byte-requires
-put_byte-requires c =
-    let x = c.args in
-    omega (arith, room-right (48 ∷ []) (10 ∷ []) x.text.now x.at (zero_room (goal.at.put_byte-requires c).Then-word-eq0) c.put_byte-next.ensures)
-
 pub returns-then-word-eq0 : goal.returns-then-word-eq0
 returns-then-word-eq0 c =
     let x = c.args in
     stored_as (zero_text x.word c.if-word-eq0.true)
     (stored-both (48 ∷ []) (10 ∷ []) x.text.now x.at (zero_room (goal.at.returns-then-word-eq0 c).Then-word-eq0) c.put_byte-next.ensures c.put_byte.ensures)
-
--- a plain literal
-pub returns-then-word-lt-SIGN : goal.returns-then-word-lt-SIGN
-returns-then-word-lt-SIGN c =
-    let x = c.args in
-    let w = subst (λ (n : ℕ). Stored (decimal n ++ (32 ∷ [])) x.text.now x.at c.put_field.result c.put_field.new.text)
-    c.magnitude.ensures c.put_field.ensures in
-    stored_as (plain_text x.word c.if-word-eq0.false c.if-word-lt-SIGN.true) w
-
--- a negated one
-pub put_field-requires-2 : goal.put_field-requires-2
-put_field-requires-2 c =
-    rw c.magnitude-2.ensures (room-right (45 ∷ []) (field (goal.at.put_field-requires-2 c).Start) c.args.text.now c.args.at (negated-room (goal.at.put_field-requires-2 c).Else-word-lt-SIGN)
-    c.put_byte-next-2.ensures)
 
 pub returns : goal.returns
 returns c =
@@ -63,15 +43,3 @@ returns c =
     c.put_field-2.new.text) c.magnitude-2.ensures c.put_field-2.ensures in
     stored_as (negated_text c.args.word c.if-word-eq0.false c.if-word-lt-SIGN.false)
     (stored-both (45 ∷ []) (field (goal.at.returns c).Start) c.args.text.now c.args.at (negated-room (goal.at.returns c).Else-word-lt-SIGN) c.put_byte-next-2.ensures w)
-
-pub put_byte-next-requires : goal.put_byte-next-requires
-put_byte-next-requires c =
-    omega (arith, zero_room (goal.at.put_byte-next-requires c).Then-word-eq0)
-
-pub put_field-requires : goal.put_field-requires
-put_field-requires c =
-    rw c.magnitude.ensures (plain-room (goal.at.put_field-requires c).Then-word-lt-SIGN)
-
-pub put_byte-next-requires-2 : goal.put_byte-next-requires-2
-put_byte-next-requires-2 c =
-    omega (arith, negated-room (goal.at.put_byte-next-requires-2 c).Else-word-lt-SIGN)

@@ -41,14 +41,6 @@ returns c =
     let x = c.args in
     (storing_end l.invariant (ap words_text (words_end x.bytes.now l.i c.loop-i-test.false))).list
 
-pub loop-i-init : goal.loop-i-init
-loop-i-init c =
-    storing_start _ _ _
-
 pub put_word-next-requires : goal.put_word-next-requires
 put_word-next-requires c =
     has_room (goal.at.put_word-next-requires c).After-word_at
-
-pub shape_of-text : goal.shape_of-text
-shape_of-text c =
-    storing_length c.requires _ c.loop-i.invariant
