@@ -8,7 +8,7 @@ ghost use Rattle.dimacs.specs.Inner.Walks.{bytes_from};
 ghost use Rattle.dimacs.specs.Inner.Copies.{no_pen, pen_bytes, digit_of, minus_of, written, Fits, Copying};
 
 use answer::put;
-use classes::{is_digit, is_white};
+use classes::Classes;
 use clausebytes::word::complement;
 
 // What has been read of a word.
@@ -79,8 +79,15 @@ fn put_word(writes: bool, out: &mut [u8], at: usize, word: u32) -> usize
 }
 
 // Writes the clause bytes of a text from a place on. (What the header declares is asked for by the contract alone.)
-pub fn copy(classes: &[u8], text: &[u8], from: usize, variables: u32, declared: u32, out: &mut [u8])
-    requires { Copying classes.now text.now (start_of from variables declared) out.old }
+pub fn copy(
+    classes: &Classes,
+    text: &[u8],
+    from: usize,
+    variables: u32,
+    declared: u32,
+    out: &mut [u8],
+)
+    requires { Copying text.now (start_of from variables declared) out.old }
     ensures { out.new
         ≡ splice out.old 0
         (bytes_from (start_of from variables declared) text.now from) }
@@ -89,9 +96,9 @@ pub fn copy(classes: &[u8], text: &[u8], from: usize, variables: u32, declared: 
     let mut at = 0;
     for i in from..text.len() {
         let byte = text[i];
-        if is_digit(classes, byte) {
+        if classes.is_digit(byte) {
             pen = pen.digit(byte);
-        } else if is_white(classes, byte) {
+        } else if classes.is_white(byte) {
             at = put_word(pen.begun, out, at, pen.word());
             pen = Pen::start();
         } else {

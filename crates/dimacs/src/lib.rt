@@ -11,6 +11,7 @@ ghost use Rattle.dimacs.specs.Inner.Calls.{text_length, read_call};
 
 use answer::{Accepted, Answer, Refusal};
 use body::State;
+use classes::Classes;
 use clausebytes::check::check;
 use clausebytes::limits::{MOST_CLAUSES, MOST_VARIABLES};
 use clausebytes::word::room;
@@ -69,7 +70,7 @@ fn cnf_form() -> Form
 pub fn read(text: &[u8], clauses: &mut [u8]) -> Answer
     ensures { record { answer = result; output = clauses.new } ≡ read_call text.now clauses.old }
 {
-    let classes = classes::classes();
+    let classes = Classes::new();
     let head = header::read(&classes, text, cnf_form());
     let from = head.place;
     if !head.is_done() {

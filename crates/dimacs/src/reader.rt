@@ -3,11 +3,11 @@ ghost use Rattle.std.specs.Prelude.{◌≡◌};
 ghost use Rattle.dimacs.specs.Inner.Walks.{state_from, AtZero, Zeroed, AtLiteral, Begun, InDigits, Ended, Spelt, Walking};
 
 use body::State;
-use classes::{DIGIT, MINUS, NOUGHT, is_digit, is_of, is_white};
+use classes::{Classes, DIGIT, MINUS, NOUGHT};
 
 // Reads a zero, and the white space right behind it.
-fn zero(classes: &[u8], text: &[u8], start: State) -> State
-    requires { AtZero classes.now text.now start }
+fn zero(classes: &Classes, text: &[u8], start: State) -> State
+    requires { AtZero text.now start }
     ensures { Zeroed text.now start result }
 {
     let closed = start.close();
@@ -18,23 +18,23 @@ fn zero(classes: &[u8], text: &[u8], start: State) -> State
     if i >= text.len() {
         return closed;
     }
-    if !is_white(classes, text[i]) {
+    if !classes.is_white(text[i]) {
         return closed.dead();
     }
     closed.pass()
 }
 
 // Reads the first digit of a literal, and a `-` before it.
-fn first(classes: &[u8], text: &[u8], start: State) -> State
-    requires { AtLiteral classes.now text.now start }
+fn first(classes: &Classes, text: &[u8], start: State) -> State
+    requires { AtLiteral text.now start }
     ensures { Begun text.now start result }
 {
     let at = start.place;
     let byte = text[at];
-    if is_of(classes, byte, DIGIT) {
+    if classes.is_of(byte, DIGIT) {
         return start.begin(byte);
     }
-    if !is_of(classes, byte, MINUS) {
+    if !classes.is_of(byte, MINUS) {
         return start.dead();
     }
     let sign = start.turn();
@@ -46,22 +46,22 @@ fn first(classes: &[u8], text: &[u8], start: State) -> State
         return sign;
     }
     let next = text[i];
-    if !is_of(classes, next, DIGIT) {
+    if !classes.is_of(next, DIGIT) {
         return sign.dead();
     }
     sign.lead(next)
 }
 
 // Reads the further digits of a literal.
-fn digits(classes: &[u8], text: &[u8], start: State) -> State
-    requires { InDigits classes.now text.now start }
+fn digits(classes: &Classes, text: &[u8], start: State) -> State
+    requires { InDigits text.now start }
     ensures { Ended text.now start result }
 {
     let mut state = start;
     while state.place < text.len() {
         let i = state.place;
         let byte = text[i];
-        if !is_digit(classes, byte) {
+        if !classes.is_digit(byte) {
             return state;
         }
         state = state.grow(byte);
@@ -73,8 +73,8 @@ fn digits(classes: &[u8], text: &[u8], start: State) -> State
 }
 
 // Reads a literal, up to the white space behind it.
-fn literal(classes: &[u8], text: &[u8], start: State) -> State
-    requires { AtLiteral classes.now text.now start }
+fn literal(classes: &Classes, text: &[u8], start: State) -> State
+    requires { AtLiteral text.now start }
     ensures { Spelt text.now start result }
 {
     let begun = first(classes, text, start);
@@ -89,24 +89,24 @@ fn literal(classes: &[u8], text: &[u8], start: State) -> State
     if i >= text.len() {
         return end;
     }
-    if !is_white(classes, text[i]) {
+    if !classes.is_white(text[i]) {
         return end.dead();
     }
     end
 }
 
 // Reads a text from the state's place on; returns the state after it.
-pub fn check(classes: &[u8], text: &[u8], start: State) -> State
-    requires { Walking classes.now text.now start }
+pub fn check(classes: &Classes, text: &[u8], start: State) -> State
+    requires { Walking text.now start }
     ensures { result ≡ state_from start text.now start.place }
 {
     let mut state = start;
     while state.place < text.len() {
         let i = state.place;
         let byte = text[i];
-        if is_white(classes, byte) {
+        if classes.is_white(byte) {
             state = state.pass();
-        } else if is_of(classes, byte, NOUGHT) {
+        } else if classes.is_of(byte, NOUGHT) {
             state = zero(classes, text, state);
             if state.is_dead() {
                 return state;

@@ -5,7 +5,6 @@ use mathlib.Core.List.{List}
 use Prim.Native.Nat.{ℕ, ◌≤◌}
 use native.Mathlib.Omega.{arith}
 use lib.ListN.{length}
-use Rattle.classes.proofs.Laws.Classes.{length-table}
 use Rattle.header.specs.Inner.Heads.{head_of, Lettered}
 use Rattle.header.specs.declared.Form.{Form}
 use Rattle.header.specs.declared.Head.{Head}
@@ -15,7 +14,7 @@ use Rattle.body.specs.Inner.States.{accepts}
 use Rattle.body.specs.declared.state.State.{State}
 use Rattle.dimacs.specs.Texts.{cnf}
 use Rattle.dimacs.specs.Inner.Walks.{state_from}
-use Rattle.dimacs.proofs.Laws.ReadCall.{Seen, read_headless, read-refused, read_no_room, read-room, read-accepted}
+use Rattle.dimacs.proofs.Laws.ReadCall.{Seen, read_no_room, read-room}
 use Rattle.dimacs.proofs.read.Goals.{After-check-end, After-read-head, Else-clauses-room, Else-not-is_accepted}
 use Rattle.dimacs.proofs.read.Goals as goal
 
@@ -34,7 +33,6 @@ head c = c.read-head.ensures ∙ ap (λ f. head_of f (text_of c)) c.cnf_form.ens
 pub check-end-requires : goal.check-end-requires
 check-end-requires c =
     record {
-      table = c.classes-classes.ensures;
       place = omega (
         arith,
         ap (λ (s : State). s.place) c.start-start.ensures,
@@ -66,7 +64,6 @@ room c = omega (arith, c.room.ensures, c.if-clauses-room.false)
 pub copy-requires : goal.copy-requires
 copy-requires c =
     record {
-      table = c.classes-classes.ensures;
       accepted = ap accepts (sym (seen (goal.at.copy-requires c).After-check-end).read) ∙ accepted (goal.at.copy-requires c).Else-not-is_accepted;
       room = read-room (buffer-of (goal.at.copy-requires c).After-read-head) (seen (goal.at.copy-requires c).After-check-end) (accepted (goal.at.copy-requires c).Else-not-is_accepted) (room (goal.at.copy-requires c).Else-clauses-room);
     }

@@ -2,7 +2,6 @@
 use Prim.Native.Nat.{◌≤◌}
 use native.Mathlib.Omega.{arith}
 use Rattle.text.proofs.Laws.Decimals.{width-least}
-use Rattle.dimacs.proofs.Laws.Written.{length-header}
 use Rattle.dimacs.proofs.size.Goals.{After-width, After-width-2}
 use Rattle.dimacs.proofs.size.Goals as goal
 

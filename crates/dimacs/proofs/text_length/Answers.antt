@@ -4,7 +4,7 @@ use Prim.Native.Nat.{◌+◌}
 use lib.ListN.{length}
 use Rattle.clausebytes.proofs.Laws.Checking.{Found, found_of_checked}
 use Rattle.dimacs.specs.Texts.{header_line}
-use Rattle.dimacs.proofs.Laws.WriteCall.{length-wrong, found-small, found-lines, length_found}
+use Rattle.dimacs.proofs.Laws.WriteCall.{found-small, found-lines, length_found}
 use Rattle.dimacs.proofs.text_length.Goals.{In-Some}
 use Rattle.dimacs.proofs.text_length.Goals as goal
 

@@ -6,7 +6,7 @@ use Rattle.clausebytes.specs.Words.{words_of}
 use Rattle.clausebytes.proofs.Laws.Checking.{Found, found_of_checked}
 use Rattle.dimacs.specs.Texts.{header_line}
 use Rattle.dimacs.specs.Inner.Words.{words_text}
-use Rattle.dimacs.proofs.Laws.WriteCall.{found-refused, found-small, found-lines, found_no_room, found-room, found-written}
+use Rattle.dimacs.proofs.Laws.WriteCall.{found-small, found-lines, found_no_room, found-room, found-written}
 use Rattle.dimacs.proofs.write.Goals.{After-size, In-Some}
 use Rattle.dimacs.proofs.write.Goals as goal
 

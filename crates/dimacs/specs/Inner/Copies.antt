@@ -1,7 +1,7 @@
 -- The second reading of a text, which is known to be right: what has been read of a word, and what copying the words asks.
 -- Assumes nothing: these are definitions.
 use Rattle.std.specs.Prelude.{◌≡◌, Bool, true, false, cond, not, List, [], ℕ, ◌+◌, ◌*◌, ◌-◌, ◌^◌, ◌≤◌, ◌<◌, length}
-use Rattle.classes.specs.Inner.Classes.{class_of, is_white, is_digit, table}
+use Rattle.classes.specs.Inner.Classes.{class_of, is_white, is_digit}
 use Rattle.clausal.specs.Clauses.{literal_bytes}
 use Rattle.body.specs.Inner.States.{accepts}
 use Rattle.body.specs.declared.state.State.{State}
@@ -38,8 +38,7 @@ pub record Fits (p : Pen) (b : ℕ) : Type 0 where
   pub least : 48 ≤ b
   pub value : p.value * 10 + (b - 48) < 2 ^ 32
 
--- what copying asks: the table, a right text from the state's place on, and room
-pub record Copying (classes text : List ℕ) (start : State) (out : List ℕ) : Type 0 where
-  pub table : classes ≡ table
+-- what copying asks: a right text from the state's place on, and room
+pub record Copying (text : List ℕ) (start : State) (out : List ℕ) : Type 0 where
   pub accepted : accepts (state_from start text start.place) ≡ true
   pub room : length (bytes_from start text start.place) ≤ length out

@@ -4,7 +4,7 @@
 use Rattle.std.specs.Prelude.{◌≡◌, true, false, List, [], ◌⊎◌, ℕ, ◌≤◌, ◌<◌, eqb, length, get_or, drop}
 use Rattle.laws.specs.Numbers.{little}
 use Rattle.laws.specs.Automata.{run, output}
-use Rattle.classes.specs.Inner.Classes.{class_of, code, is_white, is_digit, table}
+use Rattle.classes.specs.Inner.Classes.{class_of, code, is_white, is_digit}
 use Rattle.clausal.specs.Clauses.{literal_bytes}
 use Rattle.body.specs.Inner.Table.{sort_of, act_of, token_of, is_dead, is_number, Token, Nothing, Zero, Positive, Negative}
 use Rattle.body.specs.Inner.States.{step_of}
@@ -45,8 +45,7 @@ pub data Over (text : List ℕ) (s : State) : Type 0 where
   end : length text ≤ s.place → Over text s
 
 -- what reading a zero asks, and gives: the reading is over, or what comes next stands apart from it
-pub record AtZero (classes text : List ℕ) (s : State) : Type 0 where
-  pub table : classes ≡ table
+pub record AtZero (text : List ℕ) (s : State) : Type 0 where
   pub place : s.place < length text
   pub phase : s.phase ≡ Between
   pub zero : eqb (code (class_of (next_in text s))) 9 ≡ true
@@ -57,8 +56,7 @@ pub record Zeroed (text : List ℕ) (s r : State) : Type 0 where
   pub further : is_dead r.phase ≡ false → s.place < r.place
 
 -- what reading the first digit of a literal asks, and gives: the reading is over, or it is in the digits
-pub record AtLiteral (classes text : List ℕ) (s : State) : Type 0 where
-  pub table : classes ≡ table
+pub record AtLiteral (text : List ℕ) (s : State) : Type 0 where
   pub place : s.place < length text
   pub phase : s.phase ≡ Between
   pub apart : is_white (class_of (next_in text s)) ≡ false
@@ -69,8 +67,7 @@ pub record Begun (text : List ℕ) (s r : State) : Type 0 where
   pub next : Over text r ⊎ (is_number r.phase ≡ true)
 
 -- what reading the further digits asks, and gives: no accepted text begins so, or what comes next is no digit
-pub record InDigits (classes text : List ℕ) (s : State) : Type 0 where
-  pub table : classes ≡ table
+pub record InDigits (text : List ℕ) (s : State) : Type 0 where
   pub place : s.place ≤ length text
   pub number : is_number s.phase ≡ true
 
@@ -85,7 +82,6 @@ pub record Spelt (text : List ℕ) (s r : State) : Type 0 where
   pub next : Over text r ⊎ ((is_number r.phase ≡ true) × (is_white (class_of (next_in text r)) ≡ true))
 
 -- what a reading asks: a text from the state's place on, between literals
-pub record Walking (classes text : List ℕ) (start : State) : Type 0 where
-  pub table : classes ≡ table
+pub record Walking (text : List ℕ) (start : State) : Type 0 where
   pub place : start.place ≤ length text
   pub phase : start.phase ≡ Between

@@ -7,14 +7,14 @@ use Prim.Native.Nat.{ℕ, ◌+◌, ◌≤◌, ◌<◌}
 use lib.ListN.{length, get_or}
 use Rattle.laws.specs.Inner.Stores.{Stored}
 use Rattle.laws.specs.Numbers.{little}
-use Rattle.laws.proofs.Stored.{stored_as, stored-length}
+use Rattle.laws.proofs.Stored.{stored_as}
 use Rattle.classes.specs.Inner.Classes.{class_of, is_white, is_digit}
 use Rattle.body.specs.Inner.States.{start_of}
 use Rattle.body.specs.declared.state.State.{State}
 use Rattle.dimacs.specs.Inner.Copies.{pen_bytes, pen_of, ends_word, written}
 use Rattle.dimacs.specs.declared.copier.Pen.{Pen}
 use Rattle.dimacs.proofs.Laws.Bytes.{digit_no_white}
-use Rattle.dimacs.proofs.Laws.Copies.{Copied, copied_start, copied_length, copied_fits, copied_room, copied_next}
+use Rattle.dimacs.proofs.Laws.Copies.{Copied, copied_length, copied_fits, copied_room, copied_next}
 use Rattle.dimacs.proofs.Laws.Copies.{copied_last, copied_end}
 use Rattle.dimacs.proofs.Laws.Copies.{pen_digit, pen_none, pen_minus, not-ended, ended}
 use Rattle.dimacs.proofs.copier.copy.Goals.{After-is_digit, After-word, After-word-2, At-loop-i, Else-is_digit, Then-is_digit, Then-is_white}

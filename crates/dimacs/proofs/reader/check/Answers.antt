@@ -8,10 +8,10 @@ use native.Mathlib.Omega.{arith}
 use lib.ListN.{length}
 use Rattle.body.specs.Inner.Table.{is_dead}
 use Rattle.body.specs.declared.state.State.{State}
-use Rattle.dimacs.specs.Inner.Walks.{dead, end}
+use Rattle.dimacs.specs.Inner.Walks.{dead}
 use Rattle.dimacs.proofs.Laws.Leads.{leads_on, leads-over}
-use Rattle.dimacs.proofs.Laws.Tokens.{white-leads, end-white}
-use Rattle.dimacs.proofs.Laws.Walks.{way-start, way-phase, way-more, goes_on, behind}
+use Rattle.dimacs.proofs.Laws.Tokens.{end-white}
+use Rattle.dimacs.proofs.Laws.Walks.{way-more, behind}
 use Rattle.dimacs.proofs.reader.check.Goals.{After-is_white, At-loop-state, Else-is_dead}
 use Rattle.dimacs.proofs.reader.check.Goals as goal
 

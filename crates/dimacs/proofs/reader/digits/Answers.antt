@@ -2,14 +2,12 @@
 -- Assumes nothing.
 use mathlib.Core.Path.{◌≡◌, sym, ◌∙◌}
 use mathlib.Core.Bool.{true, false, false≢true}
-use mathlib.Core.Logic.{inl, inr}
-use native.Mathlib.Omega.{arith}
+use mathlib.Core.Logic.{inl}
 use Rattle.classes.specs.Inner.Classes.{class_of, is_digit}
 use Rattle.body.specs.Inner.Table.{is_dead}
 use Rattle.dimacs.specs.Inner.Walks.{next_in, Leads}
-use Rattle.dimacs.proofs.Laws.Bytes.{digit-least}
-use Rattle.dimacs.proofs.Laws.Leads.{leads-none, leads_on}
-use Rattle.dimacs.proofs.Laws.Tokens.{digit-leads, digit-place, digit-number}
+use Rattle.dimacs.proofs.Laws.Leads.{leads_on}
+use Rattle.dimacs.proofs.Laws.Tokens.{digit-leads, digit-number}
 use Rattle.dimacs.proofs.reader.digits.Goals.{After-grow-state, Else-is_dead, Else-not-is_digit}
 use Rattle.dimacs.proofs.reader.digits.Goals as goal
 

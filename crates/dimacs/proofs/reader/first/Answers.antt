@@ -7,8 +7,7 @@ use lib.Dec.{eqb}
 use Rattle.classes.specs.Inner.Classes.{class_of, code}
 use Rattle.body.specs.Inner.Table.{is_dead}
 use Rattle.dimacs.specs.Inner.Walks.{next_in, dead, end}
-use Rattle.dimacs.proofs.Laws.Bytes.{digit-is, digit-least}
-use Rattle.dimacs.proofs.Laws.Tokens.{literal-plain, literal-wrong, minus-over, minus-wrong, minus-digit}
+use Rattle.dimacs.proofs.Laws.Tokens.{literal-plain, minus-over, minus-wrong, minus-digit}
 use Rattle.dimacs.proofs.reader.first.Goals.{After-turn-sign, Else-is_dead, Else-is_of, Else-not-is_of-2, Start, Then-is_of}
 use Rattle.dimacs.proofs.reader.first.Goals as goal
 

@@ -3,8 +3,7 @@ use mathlib.Core.Path.{◌≡◌, sym, ◌∙◌}
 use mathlib.Core.Bool.{false}
 use native.Mathlib.Omega.{arith}
 use Rattle.body.specs.Inner.Table.{is_dead}
-use Rattle.dimacs.specs.Inner.Walks.{dead, end}
-use Rattle.dimacs.proofs.Laws.Tokens.{spelt_begun, spelt_over, spelt_wrong, spelt_white}
+use Rattle.dimacs.proofs.Laws.Tokens.{spelt_wrong}
 use Rattle.dimacs.proofs.reader.literal.Goals.{Else-is_dead}
 use Rattle.dimacs.proofs.reader.literal.Goals as goal
 

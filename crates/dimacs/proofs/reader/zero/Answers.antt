@@ -3,7 +3,7 @@ use mathlib.Core.Path.{◌≡◌, sym, ◌∙◌}
 use mathlib.Core.Bool.{false}
 use native.Mathlib.Omega.{arith}
 use Rattle.body.specs.Inner.Table.{is_dead}
-use Rattle.dimacs.proofs.Laws.Tokens.{zero-dead, zero-end, zero-wrong, zero-apart}
+use Rattle.dimacs.proofs.Laws.Tokens.{zero-wrong, zero-apart}
 use Rattle.dimacs.proofs.reader.zero.Goals.{Else-is_dead}
 use Rattle.dimacs.proofs.reader.zero.Goals as goal
 

@@ -5,7 +5,7 @@ use Prim.Native.Nat.{ℕ}
 use native.Mathlib.Omega.{arith}
 use Rattle.clausebytes.specs.Words.{words_of}
 use Rattle.clausebytes.proofs.Laws.Words.{words_next, words_end}
-use Rattle.dimacs.proofs.Laws.Written.{word-short, Sizing, sizing_start, sizing_more, sizing_end}
+use Rattle.dimacs.proofs.Laws.Written.{word-short, Sizing, sizing_more, sizing_end}
 use Rattle.dimacs.proofs.writer.lines_size.Goals as goal
 
 pub loop-i-preserved : goal.loop-i-preserved

@@ -3,7 +3,7 @@ use mathlib.Core.List.{List, [], ◌∷◌, ◌++◌}
 use Prim.Native.Nat.{ℕ, ◌+◌, ◌≤◌}
 use native.Mathlib.Omega.{arith}
 use lib.ListN.{length}
-use Rattle.laws.proofs.Stored.{room-left, room-right, stored-both}
+use Rattle.laws.proofs.Stored.{room-right, stored-both}
 use Rattle.text.specs.Texts.{decimal}
 use Rattle.dimacs.proofs.writer.put_header.Goals.{After-put_bytes-first, Start}
 use Rattle.dimacs.proofs.writer.put_header.Goals as goal

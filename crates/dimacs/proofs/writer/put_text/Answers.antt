@@ -5,7 +5,7 @@ use Prim.Native.Nat.{ℕ, ◌+◌, ◌≤◌}
 use native.Mathlib.Omega.{arith}
 use lib.ListN.{length}
 use Rattle.laws.specs.Inner.Stores.{Stored}
-use Rattle.laws.proofs.Stored.{room-left, room-right, stored-both}
+use Rattle.laws.proofs.Stored.{stored-both}
 use Rattle.clausebytes.specs.Words.{words_of}
 use Rattle.dimacs.specs.Texts.{header_line}
 use Rattle.dimacs.specs.Inner.Words.{words_text}

@@ -2,10 +2,9 @@
 use mathlib.Core.Path.{subst}
 use mathlib.Core.List.{List, [], ◌∷◌, ◌++◌}
 use Prim.Native.Nat.{ℕ, ◌+◌, ◌≤◌}
-use native.Mathlib.Omega.{arith}
 use lib.ListN.{length}
 use Rattle.laws.specs.Inner.Stores.{Stored}
-use Rattle.laws.proofs.Stored.{room-right, stored-both, stored_as}
+use Rattle.laws.proofs.Stored.{stored-both, stored_as}
 use Rattle.text.specs.Texts.{decimal}
 use Rattle.clausebytes.specs.Words.{literal_of}
 use Rattle.dimacs.proofs.Laws.Written.{zero_text, plain_text, negated_text}

@@ -4,7 +4,7 @@ use mathlib.Core.List.{List, ◌++◌}
 use Prim.Native.Nat.{ℕ, ◌+◌, ◌≤◌}
 use native.Mathlib.Omega.{arith}
 use lib.ListN.{length, drop}
-use Rattle.laws.proofs.Stored.{Storing, storing_start, storing_room, storing_length, storing_more, storing_end}
+use Rattle.laws.proofs.Stored.{Storing, storing_room, storing_more, storing_end}
 use Rattle.clausebytes.specs.Words.{words_of}
 use Rattle.clausebytes.proofs.Laws.Words.{words_next, words_end}
 use Rattle.dimacs.specs.Inner.Words.{word_text, words_text}
