@@ -52,10 +52,10 @@ pub put_fate_settled : (κs : Lfts 4) (a : Dens κs put-fate-kinds.ps) (r q : (r
     → put-fate.Post κs a r s → put-fate.Post κs a q t
     → (r ≡ q) × (s.1.1.1.1.0.now ≡ t.1.1.1.1.0.now)
     × (s.1.1.1.1.1.0.now ≡ t.1.1.1.1.1.0.now)
-    × (s.1.1.1.1.1.1.0.now ≡ t.1.1.1.1.1.1.0.now)
+    × (s.1.1.1.1.1.1.0.now.bits ≡ t.1.1.1.1.1.1.0.now.bits)
 put_fate_settled κs a r q s t e f = (
-  drawn-same e.0 f.0,
-  e.0.kept_put.list ∙ sym f.0.kept_put.list,
-  e.0.lines_put.list ∙ sym f.0.lines_put.list,
-  e.1 ∙ sym f.1,
+  drawn-same e f,
+  e.kept_put.list ∙ sym f.kept_put.list,
+  e.lines_put.list ∙ sym f.lines_put.list,
+  s.1.1.1.1.1.1.0.now.empty ∙ sym t.1.1.1.1.1.1.0.now.empty,
 )

@@ -4,13 +4,13 @@ ghost use Rattle.laws.specs.Numbers.{little};
 ghost use Rattle.bits.specs.Inner.Rows.{with_bits};
 ghost use Rattle.clausal.specs.Clauses.{clauses_bytes};
 ghost use Rattle.tidied.specs.Tidying.{firsts_of, others_of, equal, literal_changes, kept_of, changes_by};
-ghost use Rattle.sets.specs.Inner.Sets.{clause_from, codes_of};
+ghost use Rattle.sets.specs.Inner.Sets.{clause_from, codes_of, no_literals};
 ghost use Rattle.kept.specs.Inner.Pens.{literals_bytes, fate_for, Drawn, Drawable, Given};
 
 use crate::pen::{Cause, Pen, put_change, put_word};
 use clausebytes::word::word_at;
 use sets::code::code;
-use sets::row::wipe;
+use sets::row::{Row, wipe};
 use sets::set::is_tautology;
 
 // Puts a literal of a clause: its word, or the line that tells that it was there before.
@@ -48,8 +48,9 @@ fn put_literals(
     row: &mut [u8],
     pen: Pen,
 ) -> Pen
-    requires { Given bytes.now row.old (literals_bytes (firsts_of (clause_from bytes.now from))) 0
+    requires given { Given bytes.now (literals_bytes (firsts_of (clause_from bytes.now from))) 0
         (literal_changes clause (others_of (clause_from bytes.now from))) out.old lines.old pen }
+    requires empty { row.old ≡ no_literals }
     ensures { Drawn (literals_bytes (firsts_of (clause_from bytes.now from))) 0
         (literal_changes clause (others_of (clause_from bytes.now from))) out.old lines.old pen
         out.new lines.new result
@@ -69,25 +70,24 @@ fn put_literals(
     drawn
 }
 
-// Puts a clause that is kept. The row is without literals before and after.
+// Puts a clause that is kept.
 fn put_clause(
     bytes: &[u8],
     from: usize,
     clause: u32,
     out: &mut [u8],
     lines: &mut [u8],
-    row: &mut [u8],
+    row: &mut Row,
     pen: Pen,
 ) -> Pen
-    requires { Given bytes.now row.old (clauses_bytes (firsts_of (clause_from bytes.now from) ∷ [])) 1
+    requires { Given bytes.now (clauses_bytes (firsts_of (clause_from bytes.now from) ∷ [])) 1
         (literal_changes clause (others_of (clause_from bytes.now from))) out.old lines.old pen }
     ensures { Drawn (clauses_bytes (firsts_of (clause_from bytes.now from) ∷ [])) 1
         (literal_changes clause (others_of (clause_from bytes.now from))) out.old lines.old pen
-        out.new lines.new result
-        × (row.new ≡ row.old) }
+        out.new lines.new result }
 {
-    let drawn = put_literals(bytes, from, clause, out, lines, row, pen);
-    wipe(bytes, from, row);
+    let drawn = put_literals(bytes, from, clause, out, lines, &mut row.bits, pen);
+    wipe(bytes, from, &mut row.bits);
     Pen {
         kept: put_word(drawn.writing, out, drawn.kept, 0),
         clauses: drawn.clauses + 1,
@@ -103,18 +103,17 @@ pub fn put_fate(
     first: u32,
     out: &mut [u8],
     lines: &mut [u8],
-    row: &mut [u8],
+    row: &mut Row,
     pen: Pen,
 ) -> Pen
-    requires { Given bytes.now row.old (clauses_bytes (kept_of (fate_for clause first (clause_from bytes.now from)) (clause_from bytes.now from)))
+    requires { Given bytes.now (clauses_bytes (kept_of (fate_for clause first (clause_from bytes.now from)) (clause_from bytes.now from)))
         (length (kept_of (fate_for clause first (clause_from bytes.now from)) (clause_from bytes.now from)))
         (changes_by clause (fate_for clause first (clause_from bytes.now from)) (clause_from bytes.now from)) out.old lines.old pen }
     ensures { Drawn
         (clauses_bytes (kept_of (fate_for clause first (clause_from bytes.now from)) (clause_from bytes.now from)))
         (length (kept_of (fate_for clause first (clause_from bytes.now from)) (clause_from bytes.now from)))
         (changes_by clause (fate_for clause first (clause_from bytes.now from)) (clause_from bytes.now from))
-        out.old lines.old pen out.new lines.new result
-        × (row.new ≡ row.old) }
+        out.old lines.old pen out.new lines.new result }
 {
     if is_tautology(bytes, from, row) {
         return put_change(lines, pen, clause, Cause::Tautology, 0);

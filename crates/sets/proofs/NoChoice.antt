@@ -7,6 +7,8 @@ use denote.Triple.Clauses.{AtExit}
 use borrow.Fn.Kinds.{Dens, ended_of, res_t}
 use Rattle.sets.proofs.code.code.Kinds as code-kinds
 use Rattle.sets.proofs.code.code.Reads as code
+use Rattle.sets.proofs.row.Row.new.Kinds as new-kinds
+use Rattle.sets.proofs.row.Row.new.Reads as new
 use Rattle.sets.proofs.row.mark.Kinds as mark-kinds
 use Rattle.sets.proofs.row.mark.Reads as mark
 use Rattle.sets.proofs.row.wipe.Kinds as wipe-kinds
@@ -49,15 +51,20 @@ end_of_settled κs a r q s t e f = e ∙ sym f
 
 pub is-same-settled : (κs : Lfts 2) (a : Dens κs is-same-kinds.ps) (r q : (res_t is-same-kinds.r κs).Denot)
     (s t : AtExit (ended_of 2 is-same-kinds.ps is-same-kinds.r) κs)
-    → is_same.Post κs a r s → is_same.Post κs a q t → (r ≡ q) × (s.1.1.1.0.now ≡ t.1.1.1.0.now)
-is-same-settled κs a r q s t e f = (e.0 ∙ sym f.0, e.1 ∙ sym f.1)
+    → is_same.Post κs a r s → is_same.Post κs a q t → (r ≡ q) × (s.1.1.1.0.now.bits ≡ t.1.1.1.0.now.bits)
+is-same-settled κs a r q s t e f = (e ∙ sym f, s.1.1.1.0.now.empty ∙ sym t.1.1.1.0.now.empty)
 
 pub is-tautology-settled : (κs : Lfts 2) (a : Dens κs is-tautology-kinds.ps) (r q : (res_t is-tautology-kinds.r κs).Denot)
     (s t : AtExit (ended_of 2 is-tautology-kinds.ps is-tautology-kinds.r) κs)
-    → is-tautology.Post κs a r s → is-tautology.Post κs a q t → (r ≡ q) × (s.1.1.0.now ≡ t.1.1.0.now)
-is-tautology-settled κs a r q s t e f = (e.0 ∙ sym f.0, e.1 ∙ sym f.1)
+    → is-tautology.Post κs a r s → is-tautology.Post κs a q t → (r ≡ q) × (s.1.1.0.now.bits ≡ t.1.1.0.now.bits)
+is-tautology-settled κs a r q s t e f = (e ∙ sym f, s.1.1.0.now.empty ∙ sym t.1.1.0.now.empty)
 
 pub sign-settled : (κs : Lfts 2) (a : Dens κs sign-kinds.ps) (r q : (res_t sign-kinds.r κs).Denot)
     (s t : AtExit (ended_of 2 sign-kinds.ps sign-kinds.r) κs)
-    → sign.Post κs a r s → sign.Post κs a q t → (r ≡ q) × (s.1.1.1.0.now ≡ t.1.1.1.0.now)
-sign-settled κs a r q s t e f = (e.0 ∙ sym f.0, e.1 ∙ sym f.1)
+    → sign.Post κs a r s → sign.Post κs a q t → (r ≡ q) × (s.1.1.1.0.now.bits ≡ t.1.1.1.0.now.bits)
+sign-settled κs a r q s t e f = (e ∙ sym f, s.1.1.1.0.now.empty ∙ sym t.1.1.1.0.now.empty)
+
+pub new-settled : (κs : Lfts 0) (a : Dens κs new-kinds.ps) (r q : (res_t new-kinds.r κs).Denot)
+    (s t : AtExit (ended_of 0 new-kinds.ps new-kinds.r) κs)
+    → new.Post κs a r s → new.Post κs a q t → r.bits ≡ q.bits
+new-settled κs a r q s t e f = e ∙ sym f

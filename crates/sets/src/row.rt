@@ -2,10 +2,25 @@
 ghost use Rattle.std.specs.Prelude.{◌≡◌, ◌<◌};
 ghost use Rattle.bits.specs.Inner.Rows.{with_bits, wiped};
 ghost use Rattle.sets.specs.Inner.Sets.{clause_from, codes_of, some_is, mix_of, sign_of, seeds};
-ghost use Rattle.sets.specs.Inner.Sets.{Legible, Signable};
+ghost use Rattle.sets.specs.Inner.Sets.{no_literals, Legible, Signable};
 
 use crate::code::code;
 use clausebytes::word::word_at;
+
+// A row of bits for the literals of a clause. Between calls it is without literals.
+#[derive(Drop)]
+pub struct Row {
+    pub bits: [u8; 10_001],
+    pub ghost empty: { bits ≡ no_literals },
+}
+
+impl Row {
+    pub fn new() -> Self
+        ensures { result.bits ≡ no_literals }
+    {
+        Self { bits: [0; 10_001] }
+    }
+}
 
 // What a literal adds to a signature.
 fn mix(seed: u32, code: usize) -> u64

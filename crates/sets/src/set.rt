@@ -1,9 +1,9 @@
 // Clauses as sets of literals: which are the same, which have a literal and its negation, and their signatures.
 ghost use Rattle.std.specs.Prelude.{◌≡◌};
 ghost use Rattle.tidied.specs.Tidying.{same_literals, is_tautology};
-ghost use Rattle.sets.specs.Inner.Sets.{clause_from, end_from, some_of, sign_of, Ready, Signable};
+ghost use Rattle.sets.specs.Inner.Sets.{clause_from, end_from, some_of, sign_of, Numbered, Seeded};
 
-use crate::row::{mark, some_is, wipe};
+use crate::row::{Row, mark, some_is, wipe};
 use clausebytes::word::word_at;
 
 // The place of the zero of a clause.
@@ -19,40 +19,38 @@ pub fn end_of(bytes: &[u8], from: usize) -> usize
 }
 
 // Whether a literal of clause a is missing in clause b; or, where they are turned, whether the negation of one is there.
-fn some_of(bytes: &[u8], a: usize, b: usize, turned: bool, row: &mut [u8]) -> bool
-    requires { Ready bytes.now row.old }
-    ensures { (result ≡ some_of turned (clause_from bytes.now a) (clause_from bytes.now b))
-        × (row.new ≡ row.old) }
+fn some_of(bytes: &[u8], a: usize, b: usize, turned: bool, row: &mut Row) -> bool
+    requires { Numbered bytes.now }
+    ensures { result ≡ some_of turned (clause_from bytes.now a) (clause_from bytes.now b) }
 {
-    mark(bytes, b, 0, row);
-    let some = some_is(bytes, a, turned, row);
-    wipe(bytes, b, row);
+    mark(bytes, b, 0, &mut row.bits);
+    let some = some_is(bytes, a, turned, &row.bits);
+    wipe(bytes, b, &mut row.bits);
     some
 }
 
-// Whether two clauses have the same literals. The row is without literals before and after.
-pub fn is_same(bytes: &[u8], a: usize, b: usize, row: &mut [u8]) -> bool
-    requires { Ready bytes.now row.old }
-    ensures { (result ≡ same_literals (clause_from bytes.now a) (clause_from bytes.now b))
-        × (row.new ≡ row.old) }
+// Whether two clauses have the same literals.
+pub fn is_same(bytes: &[u8], a: usize, b: usize, row: &mut Row) -> bool
+    requires { Numbered bytes.now }
+    ensures { result ≡ same_literals (clause_from bytes.now a) (clause_from bytes.now b) }
 {
     !some_of(bytes, a, b, false, row) && !some_of(bytes, b, a, false, row)
 }
 
 // Whether a clause has a literal and its negation.
-pub fn is_tautology(bytes: &[u8], from: usize, row: &mut [u8]) -> bool
-    requires { Ready bytes.now row.old }
-    ensures { (result ≡ is_tautology (clause_from bytes.now from)) × (row.new ≡ row.old) }
+pub fn is_tautology(bytes: &[u8], from: usize, row: &mut Row) -> bool
+    requires { Numbered bytes.now }
+    ensures { result ≡ is_tautology (clause_from bytes.now from) }
 {
     some_of(bytes, from, from, true, row)
 }
 
 // The signature of a clause.
-pub fn sign(bytes: &[u8], from: usize, seed: u32, row: &mut [u8]) -> u64
-    requires { Signable bytes.now row.old seed }
-    ensures { (result ≡ sign_of seed (clause_from bytes.now from)) × (row.new ≡ row.old) }
+pub fn sign(bytes: &[u8], from: usize, seed: u32, row: &mut Row) -> u64
+    requires { Seeded bytes.now seed }
+    ensures { result ≡ sign_of seed (clause_from bytes.now from) }
 {
-    let sign = mark(bytes, from, seed, row);
-    wipe(bytes, from, row);
+    let sign = mark(bytes, from, seed, &mut row.bits);
+    wipe(bytes, from, &mut row.bits);
     sign
 }

@@ -10,6 +10,7 @@ ghost use Rattle.tidy.specs.Inner.Windows.{most};
 use crate::window::first_clauses;
 use kept::clause::put_fate;
 use kept::pen::Pen;
+use sets::row::Row;
 use sets::set::end_of;
 
 // The place behind a window, and the pen there.
@@ -27,12 +28,11 @@ fn put_window(
     firsts: &[u32],
     out: &mut [u8],
     lines: &mut [u8],
-    row: &mut [u8],
+    row: &mut Row,
     pen: Pen,
 ) -> Walked
-    requires { Passable bytes.now start place (length firsts.now) firsts.now out.old lines.old row.old pen }
-    ensures { Passed bytes.now start (length firsts.now) out.old lines.old pen out.new lines.new result
-        × (row.new ≡ row.old) }
+    requires { Passable bytes.now start place (length firsts.now) firsts.now out.old lines.old pen }
+    ensures { Passed bytes.now start (length firsts.now) out.old lines.old pen out.new lines.new result }
 {
     let mut drawn = pen;
     let mut at = place;
@@ -68,7 +68,7 @@ pub fn put_all(
         (changes_of (clauses_of bytes.now)) out.old lines.old (start_pen writing)
         out.new lines.new result }
 {
-    let mut row = [0u8; 10_001];
+    let mut row = Row::new();
     let mut walked = Walked {
         place: 0,
         pen: Pen {

@@ -5,6 +5,8 @@ ghost use Rattle.sets.specs.Inner.Sets.{clause_from};
 ghost use Rattle.tidy.specs.Inner.Windows.{most, slot_of, first_after, Notable, Noted, Comparable, Scannable, Scanned};
 ghost use Rattle.tidy.specs.Inner.Windows.{Searchable, Searched, FirstsFound};
 
+use sets::row::Row;
+
 // The number of no clause.
 const NONE: u32 = 65_535;
 
@@ -39,10 +41,9 @@ fn slot(sign: u64) -> usize
 }
 
 // Whether a clause of a window has the same literals as the clause that is looked for. Other signatures say that it has not.
-fn is_found(bytes: &[u8], place: usize, sign: u64, spot: Spot, row: &mut [u8]) -> bool
-    requires { Comparable bytes.now place sign spot row.old }
-    ensures { (result ≡ same_literals (clause_from bytes.now place) (clause_from bytes.now spot.place))
-        × (row.new ≡ row.old) }
+fn is_found(bytes: &[u8], place: usize, sign: u64, spot: Spot, row: &mut Row) -> bool
+    requires { Comparable bytes.now place sign spot }
+    ensures { result ≡ same_literals (clause_from bytes.now place) (clause_from bytes.now spot.place) }
 {
     if sign != spot.sign {
         return false;
@@ -51,12 +52,10 @@ fn is_found(bytes: &[u8], place: usize, sign: u64, spot: Spot, row: &mut [u8]) -
 }
 
 // The number of a clause of a window: as it was, or that of the clause that is looked for.
-fn first_after(bytes: &[u8], place: usize, sign: u64, first: u32, spot: Spot, row: &mut [u8]) -> u32
-    requires { Comparable bytes.now place sign spot row.old }
-    ensures { (result
-        ≡ first_after first (same_literals (clause_from bytes.now place) (clause_from bytes.now spot.place))
-        spot.number)
-        × (row.new ≡ row.old) }
+fn first_after(bytes: &[u8], place: usize, sign: u64, first: u32, spot: Spot, row: &mut Row) -> u32
+    requires { Comparable bytes.now place sign spot }
+    ensures { result
+        ≡ first_after first (same_literals (clause_from bytes.now place) (clause_from bytes.now spot.place)) spot.number }
 {
     if first != NONE {
         return first;
@@ -83,11 +82,10 @@ impl Window {
         count: usize,
         seed: u32,
         slots: &mut [u8],
-        row: &mut [u8],
+        row: &mut Row,
     )
-        requires { Notable bytes.now place count seed self.old.places self.old.signs slots.old row.old }
-        ensures { Noted bytes.now place count seed self.new.places self.new.signs slots.new
-            × (row.new ≡ row.old) }
+        requires { Notable bytes.now place count seed self.old.places self.old.signs slots.old }
+        ensures { Noted bytes.now place count seed self.new.places self.new.signs slots.new }
     {
         let mut at = place;
         for i in 0..count {
@@ -108,12 +106,11 @@ impl Window {
         count: usize,
         firsts: &mut [u32; 1024],
         slots: &mut [u8],
-        row: &mut [u8],
+        row: &mut Row,
     ) -> usize
-        requires { Scannable bytes.now spot count self.now.places self.now.signs firsts.old slots.old row.old }
+        requires { Scannable bytes.now spot count self.now.places self.now.signs firsts.old slots.old }
         ensures { Scanned bytes.now spot count self.now.places self.now.signs firsts.old
             firsts.new slots.new
-            × (row.new ≡ row.old)
             × (result ≤ most) }
     {
         let here = slot(spot.sign);
@@ -144,10 +141,10 @@ fn search(
     count: usize,
     seed: u32,
     limit: usize,
-    row: &mut [u8],
+    row: &mut Row,
 ) -> Option<[u32; 1024]>
-    requires { Searchable bytes.now start place count seed row.old }
-    ensures { Searched bytes.now start count limit result × (row.new ≡ row.old) }
+    requires { Searchable bytes.now start place count seed }
+    ensures { Searched bytes.now start count limit result }
 {
     let end = start + count as u32;
     let mut window = Window {
@@ -182,10 +179,10 @@ pub fn first_clauses(
     place: usize,
     count: usize,
     from: u32,
-    row: &mut [u8],
+    row: &mut Row,
 ) -> Firsts
-    requires { Searchable bytes.now start place count from row.old }
-    ensures { FirstsFound bytes.now start count result × (row.new ≡ row.old) }
+    requires { Searchable bytes.now start place count from }
+    ensures { FirstsFound bytes.now start count result }
 {
     for seed in from..LAST {
         if let Some(firsts) = search(bytes, start, place, count, seed, MISSES, row) {

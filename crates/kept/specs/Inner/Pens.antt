@@ -5,7 +5,7 @@ use Rattle.laws.specs.Lists.{splice}
 use Rattle.clausal.specs.Clauses.{Clause, literal_bytes}
 use Rattle.tidied.specs.Tidying.{is_tautology, Fate, stays, tautology, repeats, Change, cause_word, change_line, change_lines}
 use Rattle.tidied.specs.Tidying as tidying
-use Rattle.sets.specs.Inner.Sets.{Ready}
+use Rattle.sets.specs.Inner.Sets.{Numbered}
 use Rattle.kept.specs.declared.pen.Pen.{Pen}
 use Rattle.kept.specs.declared.pen.Cause.{Cause}
 use Rattle.kept.specs.declared.pen.Cause.TheVariants.{Literal, Tautology, Repeat}
@@ -69,9 +69,9 @@ pub record Drawable (kept : List ℕ) (clauses : ℕ) (changes : List Change) (o
   pub clauses_few : p.clauses + clauses < 2 ^ 32
   pub told : Tellable changes lines p
 
--- what is given for a clause: bytes whose literals have numbers, a row without literals, and room
-pub record Given (bytes row kept : List ℕ) (clauses : ℕ) (changes : List Change) (out lines : List ℕ) (p : Pen) : Type 0 where
-  pub ready : Ready bytes row
+-- what is given for a clause: bytes whose literals have numbers, and room
+pub record Given (bytes kept : List ℕ) (clauses : ℕ) (changes : List Change) (out lines : List ℕ) (p : Pen) : Type 0 where
+  pub numbered : Numbered bytes
   pub long : length bytes < 2 ^ 32
   pub drawable : Drawable kept clauses changes out lines p
 

@@ -64,17 +64,24 @@ sign_of seed c = sum_below 80_008 (λ n. cond (is_one n (codes_of c)) (mix_of se
 abbrev pub seeds : ℕ
 seeds = 16
 
--- clause bytes whose literals have numbers, and a row for them
+-- clause bytes whose literals have numbers, alone, with a row for them ..
+abbrev pub Numbered : List ℕ → Type 0
+Numbered bytes = all_within most_variables (words_of bytes) ≡ true
+
 pub record Legible (bytes row : List ℕ) : Type 0 where
-  pub within : all_within most_variables (words_of bytes) ≡ true
+  pub within : Numbered bytes
   pub size : length row ≡ row_bytes
 
--- the same with a row without literals
+-- .. with a row without literals ..
 pub record Ready (bytes row : List ℕ) : Type 0 where
-  pub within : all_within most_variables (words_of bytes) ≡ true
+  pub within : Numbered bytes
   pub empty : row ≡ no_literals
 
--- the same with a seed
+-- .. or with a seed
+pub record Seeded (bytes : List ℕ) (seed : ℕ) : Type 0 where
+  pub within : Numbered bytes
+  pub few : seed < seeds
+
 pub record Signable (bytes row : List ℕ) (seed : ℕ) : Type 0 where
   pub ready : Ready bytes row
   pub few : seed < seeds

@@ -24,8 +24,8 @@ pub record Passing (bytes : List ℕ) (start count : ℕ) (out lines : List ℕ)
   pub at_is : at ≡ place_of bytes (start + i)
   pub drawn-is : DrawnIn (clauses_of bytes) start i out lines pen mid left drawn
 
-module _ {bytes : List ℕ} {start place count : ℕ} {firsts out lines row : List ℕ} {pen : Pen}
-    (p : Passable bytes start place count firsts out lines row pen) where
+module _ {bytes : List ℕ} {start place count : ℕ} {firsts out lines : List ℕ} {pen : Pen}
+    (p : Passable bytes start place count firsts out lines pen) where
   pub passing_start : Passing bytes start count out lines pen out lines pen place 0
   passing_start =
       let e : start ≡ start + 0 = omega arith in

@@ -29,8 +29,8 @@ pub record Scanning (bytes : List ℕ) (spot : Spot) (count : ℕ) (places signs
   pub rest : (k : ℕ) → i ≤ k → get_or firsts k 0 ≡ get_or before k 0
   pub none_left : left ≡ 0 → (k : ℕ) → k < i → Open firsts k → slot_of (get_or signs k 0) ≡ slot_of spot.sign → ⊥
 
-module _ {bytes : List ℕ} {spot : Spot} {count : ℕ} {places signs before slots row : List ℕ}
-    (given : Scannable bytes spot count places signs before slots row) where
+module _ {bytes : List ℕ} {spot : Spot} {count : ℕ} {places signs before slots : List ℕ}
+    (given : Scannable bytes spot count places signs before slots) where
   -- the slot is not there: no clause without a number is the same
   pub unslotted : has_bit slots (slot_of spot.sign) ≡ false → Scanned bytes spot count places signs before before slots
   unslotted missing = record {

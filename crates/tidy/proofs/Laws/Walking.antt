@@ -16,7 +16,7 @@ use Rattle.clausebytes.proofs.Encoded.{Bytes}
 use Rattle.clausebytes.proofs.Laws.Stand.{kept-within}
 use Rattle.clausebytes.proofs.Laws.Wrong.{RightBytes, right_of_not_wrong}
 use Rattle.tidied.specs.Tidying.{tidied, changes_of}
-use Rattle.sets.specs.Inner.Sets.{no_literals, seeds, Ready}
+use Rattle.sets.specs.Inner.Sets.{seeds, Numbered}
 use Rattle.kept.specs.Inner.Pens.{Drawn}
 use Rattle.kept.proofs.Laws.Pens.{drawn_as, drawable_as, drawn-lengths}
 use Rattle.tidy.specs.Inner.Passes.{start_pen, Passable, Passed, Whole}
@@ -95,11 +95,8 @@ module _ {bytes : List ℕ} {v count : ℕ} {writing : Bool} {out lines : List �
       drawable-first (clauses_of bytes) 0 k (all - k)
       (subst (λ (n : ℕ). DrawableIn (clauses_of bytes) 0 n out lines (start_pen writing)) e whole_room)
 
-  ready : (row : List ℕ) → row ≡ no_literals → Ready bytes row
-  ready row e = record {
-    within = within_more v _ right.variables (words_of bytes) right.within;
-    empty = e;
-  }
+  numbered : Numbered bytes
+  numbered = within_more v _ right.variables (words_of bytes) right.within
 
   module _ {mid left : List ℕ} {walked : Walked} {seed start : ℕ}
       (w : Walking bytes writing out lines mid left walked seed start) where
@@ -112,9 +109,9 @@ module _ {bytes : List ℕ} {v count : ℕ} {writing : Bool} {out lines : List �
       window_within : start + size ≤ length (clauses_of bytes)
       window_within = omega (arith, s.within, given.count_is, w.within)
 
-      pub walking_searchable : (row : List ℕ) → row ≡ no_literals → Searchable bytes start walked.place size seed row
-      walking_searchable row e = record {
-        ready = ready row e;
+      pub walking_searchable : Searchable bytes start walked.place size seed
+      walking_searchable = record {
+        numbered = numbered;
         long = bytes-short bytes v small given.right;
         closed = right.last;
         within = window_within;
@@ -125,11 +122,11 @@ module _ {bytes : List ℕ} {v count : ℕ} {writing : Bool} {out lines : List �
       }
 
       -- the first clauses of the window stand at the start of a list
-      pub walking_passable : (row : List ℕ) → row ≡ no_literals → (firsts : List ℕ) → length firsts ≡ most
+      pub walking_passable : (firsts : List ℕ) → length firsts ≡ most
           → Firsts bytes start size firsts
-          → Passable bytes start walked.place size (take size firsts) mid left row walked.pen
-      walking_passable row e firsts long are = record {
-        ready = ready row e;
+          → Passable bytes start walked.place size (take size firsts) mid left walked.pen
+      walking_passable firsts long are = record {
+        numbered = numbered;
         long = bytes-short bytes v small given.right;
         closed = right.last;
         within = window_within;

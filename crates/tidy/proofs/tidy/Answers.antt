@@ -5,8 +5,7 @@ use mathlib.Core.Bool.{true, ◌&&◌}
 use lib.Dec.{leb}
 use lib.ListN.{length}
 use Rattle.clausebytes.proofs.Laws.Checking.{Found, found_of_checked}
-use Rattle.tidy.proofs.Laws.Calls.{call_refused, whole-measured, call_short}
-use Rattle.tidy.proofs.Laws.Calls.{whole-written, call_written}
+use Rattle.tidy.proofs.Laws.Calls.{whole-written}
 use Rattle.tidy.proofs.tidy.Goals.{In-Some, Else-not-fits}
 use Rattle.tidy.proofs.tidy.Goals as goal
 

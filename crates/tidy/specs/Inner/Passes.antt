@@ -5,7 +5,7 @@ use Rattle.clausal.specs.Clauses.{Clause, clauses_bytes}
 use Rattle.clausebytes.specs.Words.{words_of, clauses_of, closed_from, most_clauses, wrong_bytes}
 use Rattle.tidied.specs.Tidying.{kept_of, tidied, Change, changes_by, changes_of, change_lines}
 use Rattle.tidied.specs.Inner.Firsts.{fate_by}
-use Rattle.sets.specs.Inner.Sets.{Ready}
+use Rattle.sets.specs.Inner.Sets.{Numbered}
 use Rattle.kept.specs.Inner.Pens.{Drawn, Drawable}
 use Rattle.kept.specs.declared.pen.Pen.{Pen}
 use Rattle.tidy.specs.Inner.Windows.{place_of, Firsts}
@@ -35,8 +35,8 @@ abbrev pub start_pen : Bool → Pen
 start_pen writing = record { writing = writing; kept = 0; lines = 0; clauses = 0; changes = 0 }
 
 -- what is given for a window, and what is put
-pub record Passable (bytes : List ℕ) (start place count : ℕ) (firsts out lines row : List ℕ) (pen : Pen) : Type 0 where
-  pub ready : Ready bytes row
+pub record Passable (bytes : List ℕ) (start place count : ℕ) (firsts out lines : List ℕ) (pen : Pen) : Type 0 where
+  pub numbered : Numbered bytes
   pub long : length bytes < 2 ^ 32
   pub closed : closed_from true (words_of bytes) ≡ true
   pub within : start + count ≤ length (clauses_of bytes)

@@ -5,7 +5,7 @@ use Rattle.clausebytes.specs.Words.{words_of, clauses_of, closed_from, most_clau
 use Rattle.bits.specs.Inner.Rows.{has_bit}
 use Rattle.tidied.specs.Tidying.{same_literals}
 use Rattle.tidied.specs.Inner.Firsts.{first_below}
-use Rattle.sets.specs.Inner.Sets.{clause_from, end_from, sign_of, seeds, Ready}
+use Rattle.sets.specs.Inner.Sets.{clause_from, end_from, sign_of, seeds, Numbered}
 use Rattle.tidy.specs.declared.window.Spot.{Spot}
 use Rattle.tidy.specs.declared.window.Firsts as declared
 
@@ -50,8 +50,8 @@ abbrev pub Open : List ℕ → ℕ → Type 0
 Open firsts i = get_or firsts i 0 ≡ none
 
 -- what is given when a window is noted, and what is noted
-pub record Notable (bytes : List ℕ) (place count seed : ℕ) (places signs slots row : List ℕ) : Type 0 where
-  pub ready : Ready bytes row
+pub record Notable (bytes : List ℕ) (place count seed : ℕ) (places signs slots : List ℕ) : Type 0 where
+  pub numbered : Numbered bytes
   pub long : length bytes < 2 ^ 32
   pub start : place < 2 ^ 33
   pub few : count ≤ most
@@ -66,8 +66,8 @@ pub record Noted (bytes : List ℕ) (place count seed : ℕ) (places signs slots
   pub slotted : Slotted count (λ i. Unit {0}) signs slots
 
 -- a clause of a window and the clause that is looked for, with their signatures
-pub record Comparable (bytes : List ℕ) (place sign : ℕ) (spot : Spot) (row : List ℕ) : Type 0 where
-  pub ready : Ready bytes row
+pub record Comparable (bytes : List ℕ) (place sign : ℕ) (spot : Spot) : Type 0 where
+  pub numbered : Numbered bytes
   pub seed : ℕ
   pub sign_is : sign ≡ sign_of seed (clause_from bytes place)
   pub spot_is : spot.sign ≡ sign_of seed (clause_from bytes spot.place)
@@ -77,8 +77,8 @@ abbrev pub first_after : ℕ → Bool → ℕ → ℕ
 first_after first same number = cond (eqb first none && same) number first
 
 -- what is given when a clause is looked for, and what is noted
-pub record Scannable (bytes : List ℕ) (spot : Spot) (count : ℕ) (places signs firsts slots row : List ℕ) : Type 0 where
-  pub ready : Ready bytes row
+pub record Scannable (bytes : List ℕ) (spot : Spot) (count : ℕ) (places signs firsts slots : List ℕ) : Type 0 where
+  pub numbered : Numbered bytes
   pub seed : ℕ
   pub signed : Signed bytes seed count places signs
   pub sign_is : spot.sign ≡ sign_of seed (clause_from bytes spot.place)
@@ -92,8 +92,8 @@ pub record Scanned (bytes : List ℕ) (spot : Spot) (count : ℕ) (places signs 
   pub slotted : Slotted count (Open firsts) signs slots
 
 -- what is given when the clauses of a window are looked for, and what is found; it is given up only under a limit
-pub record Searchable (bytes : List ℕ) (start place count seed : ℕ) (row : List ℕ) : Type 0 where
-  pub ready : Ready bytes row
+pub record Searchable (bytes : List ℕ) (start place count seed : ℕ) : Type 0 where
+  pub numbered : Numbered bytes
   pub long : length bytes < 2 ^ 32
   pub closed : closed_from true (words_of bytes) ≡ true
   pub within : start + count ≤ length (clauses_of bytes)

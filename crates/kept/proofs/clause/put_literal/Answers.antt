@@ -1,5 +1,5 @@
 -- `kept::clause::put_literal` meets its contract: a line is told, or a word is put. Assumes nothing.
-use Rattle.kept.proofs.Laws.Pens.{seen-tellable, seen-drawn, new_puttable, new_drawn}
+use Rattle.kept.proofs.Laws.Pens.{new_drawn}
 use Rattle.kept.proofs.clause.put_literal.Goals as goal
 
 pub returns : goal.returns

@@ -18,18 +18,18 @@ pub loop-i-init : goal.loop-i-init
 loop-i-init c =
     let x = c.args in
     subst⁻¹ (λ (row : List ℕ). Spelling x.bytes.now x.clause x.from x.from x.out.now x.lines.now x.pen
-    x.out.now x.lines.now row x.pen) c.requires.ready.empty
-    (spelling_start x.bytes.now x.clause x.from x.out.now x.lines.now x.pen c.requires.drawable.told.low)
+    x.out.now x.lines.now row x.pen) c.requires.empty
+    (spelling_start x.bytes.now x.clause x.from x.out.now x.lines.now x.pen c.requires.given.drawable.told.low)
 
 -- buffers and row are as long as they were
 lengths : (c : At-loop-i)
     → let x = c.args in
     (length c.loop-i.out ≡ length x.out.now) × (length c.loop-i.lines ≡ length x.lines.now)
-lengths c = drawing_lengths c.requires.drawable c.loop-i.invariant.drawing
+lengths c = drawing_lengths c.requires.given.drawable c.loop-i.invariant.drawing
 
 row-length : (c : At-loop-i) → length c.loop-i.row ≡ length c.args.row.now
 row-length c =
-    c.loop-i.invariant.marking.size ∙ sym (ap length c.requires.ready.empty ∙ length-replicate {A = ℕ} row_bytes 0)
+    c.loop-i.invariant.marking.size ∙ sym (ap length c.requires.empty ∙ length-replicate {A = ℕ} row_bytes 0)
 
 -- the end of the clause: all is marked
 marked : (c : At-loop-i) → let x = c.args in
@@ -38,7 +38,7 @@ marked : (c : At-loop-i) → let x = c.args in
 marked c end =
     let x = c.args in
     marking_row c.loop-i.invariant.marking end
-    ∙ ap (with_bits (codes_of (clause_from x.bytes.now x.from))) (sym c.requires.ready.empty)
+    ∙ ap (with_bits (codes_of (clause_from x.bytes.now x.from))) (sym c.requires.empty)
 
 pub returns-then-word-eq0 : goal.returns-then-word-eq0
 returns-then-word-eq0 c =
@@ -54,7 +54,7 @@ returns c =
 small : (c : Else-word-eq0) → (literal_of c.word_at-word.result).variable ≤ most_variables
 small c =
     literal-within c.args.bytes.now c.loop-i.i c.word_at-word.result (omega arith) c.word_at-word.ensures most_variables
-    c.requires.ready.within
+    c.requires.given.numbered
 
 -- the number of its literal has a bit
 inside : (c : After-code-n) → c.code-n.result < 8 * length c.loop-i.row
@@ -71,12 +71,12 @@ here c = omega (arith, c.loop-i-test.true)
 
 pub put_literal-drawn-requires : goal.put_literal-drawn-requires
 put_literal-drawn-requires c =
-    spelling_room c.loop-i.invariant c.requires.drawable c.word_at-word.result (omega arith) (here (goal.at.put_literal-drawn-requires c).After-has-seen) c.word_at-word.ensures
+    spelling_room c.loop-i.invariant c.requires.given.drawable c.word_at-word.result (omega arith) (here (goal.at.put_literal-drawn-requires c).After-has-seen) c.word_at-word.ensures
     c.if-word-eq0.false c.code-n.result c.code-n.ensures c.has-seen.result c.has-seen.ensures
 
 pub loop-i-preserved : goal.loop-i-preserved
 loop-i-preserved c =
-    spelling_more c.loop-i.invariant c.requires.drawable c.word_at-word.result (omega arith) (here (goal.at.loop-i-preserved c).After-has-seen) c.word_at-word.ensures
+    spelling_more c.loop-i.invariant c.requires.given.drawable c.word_at-word.result (omega arith) (here (goal.at.loop-i-preserved c).After-has-seen) c.word_at-word.ensures
     c.if-word-eq0.false c.code-n.result c.code-n.ensures c.has-seen.result c.has-seen.ensures (small (goal.at.loop-i-preserved c).Else-word-eq0)
     c.put_literal-drawn.ensures _ c.put.ensures
 

@@ -5,10 +5,10 @@ use mathlib.Core.List.{List, ◌++◌}
 use Prim.Native.Nat.{ℕ, ◌+◌, ◌^◌, ◌≤◌, ◌<◌}
 use native.Mathlib.Omega.{arith}
 use lib.ListN.{length}
-use Rattle.laws.proofs.Stored.{room-left, room-right, stored-both, stored_as}
+use Rattle.laws.proofs.Stored.{room-right, stored-both, stored_as}
 use Rattle.text.specs.Texts.{decimal}
 use Rattle.kept.specs.Inner.Pens.{cause_text, line_for}
-use Rattle.kept.proofs.Laws.Lines.{line_end, line_rest, line_split, length-line, put-measured, put_written}
+use Rattle.kept.proofs.Laws.Lines.{line_end, line_rest, line_split, length-line, put_written}
 use Rattle.kept.proofs.pen.put_line.Goals.{After-put_number-word, After-width-then-not-writing, Else-not-writing, Start}
 use Rattle.kept.proofs.pen.put_line.Goals as goal
 

@@ -1,5 +1,5 @@
 -- `sets::set::end_of` meets its contract: the words before a zero are passed one by one. Assumes nothing.
-use mathlib.Core.Path.{refl, ap, ◌∙◌}
+use mathlib.Core.Path.{ap, ◌∙◌}
 use native.Mathlib.Omega.{arith}
 use lib.ListN.{length}
 use Rattle.sets.proofs.Laws.Walks.{clause-zero, clause-more, clause-end}

@@ -1,8 +1,7 @@
 -- `tidy::window::search` meets its contract: every clause up to the end of the window is looked for. Assumes nothing.
-use mathlib.Core.Path.{◌≡◌, refl, ap, ◌∙◌}
+use mathlib.Core.Path.{refl, ap, ◌∙◌}
 use Prim.Native.Nat.{ℕ, ◌+◌, ◌*◌, ◌≤◌, ◌<◌}
 use native.Mathlib.Omega.{arith}
-use lib.ListN.{length}
 use Rattle.tidy.specs.Inner.Windows.{most, none, place_after}
 use Rattle.tidy.proofs.Laws.Places.{place-low, after-after}
 use Rattle.tidy.proofs.Laws.Searching.{Searching, searching_start, searching_next, searching_end}
@@ -13,7 +12,7 @@ pub note-requires : goal.note-requires
 note-requires c =
     let p = c.requires in
     record {
-      ready = p.ready;
+      numbered = p.numbered;
       long = p.long;
       start = omega (arith, p.place_is, place-low c.args.bytes.now c.args.start, p.within, p.clauses);
       few = p.few;
@@ -26,11 +25,7 @@ note-requires c =
 pub loop-j-init : goal.loop-j-init
 loop-j-init c =
     let x = c.args in
-    (searching_start x.bytes.now x.start x.count _ _ c.requires.few c.note.ensures.0.slotted, refl, omega arith)
-
--- the row is as it was
-row_is : (c : At-loop-j) → c.loop-j.row ≡ c.args.row.now
-row_is c = c.loop-j.invariant.1 ∙ c.note.ensures.1
+    (searching_start x.bytes.now x.start x.count _ _ c.requires.few c.note.ensures.slotted, omega arith)
 
 -- the number of a clause is below that of no clause
 below : (c : In-loop-j) → c.loop-j.j < c.args.start + c.args.count
@@ -42,7 +37,7 @@ few c = let p = c.requires in omega (arith, below c, p.within, p.clauses)
 -- what was left in vain, with that of this clause
 missed : (c : After-scan-misses)
     → c.loop-j.misses + c.scan-misses.result ≤ most * (c.loop-j.j + 1)
-missed c = omega (arith, c.loop-j.invariant.2, c.scan-misses.ensures.2)
+missed c = omega (arith, c.loop-j.invariant.1, c.scan-misses.ensures.1)
 
 -- clause j was looked for
 next : (c : After-end_of-at)
@@ -52,7 +47,7 @@ next : (c : After-end_of-at)
 next c =
     let x = c.args in
     let p = c.requires in
-    let note = c.note.ensures.0 in
+    let note = c.note.ensures in
     let seen = c.scan-misses.ensures.0 in
     searching_next c.note.new.self.places c.loop-j.invariant.0 p.closed p.within p.clauses
     (λ i h. note.places_are i h ∙ ap (λ (q : ℕ). place_after x.bytes.now q i) p.place_is ∙ after-after x.bytes.now 0 x.start i)
@@ -60,11 +55,11 @@ next c =
 
 pub loop-j-preserved : goal.loop-j-preserved
 loop-j-preserved c =
-    (next c, c.scan-misses.ensures.1 ∙ c.sign-sign.ensures.1 ∙ c.loop-j.invariant.1, missed (goal.at.loop-j-preserved c).After-scan-misses)
+    (next c, missed (goal.at.loop-j-preserved c).After-scan-misses)
 
 pub returns : goal.returns
 returns c =
-    (searching_end c.loop-j.invariant.0 c.loop-j-test.false, row_is (goal.at.returns c).At-loop-j)
+    searching_end c.loop-j.invariant.0 c.loop-j-test.false
 
 pub overflow_add-at : goal.overflow_add-at
 overflow_add-at c =

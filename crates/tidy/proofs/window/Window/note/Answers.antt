@@ -1,23 +1,20 @@
 -- `tidy::window::Window::note` meets its contract: place, signature and slot of each clause are stored. Assumes nothing.
-use mathlib.Core.Path.{refl, sym, ap, ◌∙◌}
+use mathlib.Core.Path.{ap, ◌∙◌}
 use mathlib.Core.Bool.{true}
 use Prim.Native.Nat.{ℕ, ◌+◌, ◌<◌}
 use native.Mathlib.Omega.{arith}
-use lib.ListN.{length, set, length-replicate}
-use Rattle.tidy.specs.Inner.Windows.{slot_bytes}
+use lib.ListN.{set}
 use Rattle.bits.specs.Inner.Rows.{row_to}
-use Rattle.tidy.proofs.Laws.Noting.{Noting, noting_start, noting_next, noting_end, slot-inside}
+use Rattle.tidy.proofs.Laws.Noting.{Noting, noting_start, noting_next}
 use Rattle.tidy.proofs.window.Window.note.Goals.{After-end_of-at, In-loop-i}
 use Rattle.tidy.proofs.window.Window.note.Goals as goal
 
 pub loop-i-init : goal.loop-i-init
 loop-i-init c =
     let x = c.args in
-    let p = c.requires in (
-      noting_start x.bytes.now x.place x.count x.seed x.self.now.places x.self.now.signs x.slots.now
-          p.start p.places_size p.signs_size p.slots_empty,
-      refl,
-    )
+    let p = c.requires in
+    noting_start x.bytes.now x.place x.count x.seed x.self.now.places x.self.now.signs x.slots.now p.start p.places_size p.signs_size
+    p.slots_empty
 
 -- the number of a clause is below the entries of both arrays
 below : (c : In-loop-i) → c.loop-i.i < 1_024
@@ -30,7 +27,7 @@ more : (c : After-end_of-at)
     (set c.loop-i.self.signs c.loop-i.i c.sign-sign.result) c.put.new.row (c.end_of-at.result + 1) (c.loop-i.i + 1)
 more c =
     let row = c.put.ensures ∙ ap (λ (n : ℕ). row_to c.loop-i.slots n true) c.slot.ensures in
-    noting_next c.loop-i.invariant.0 c.requires.few c.loop-i-test.true c.sign-sign.result c.sign-sign.ensures.0
+    noting_next c.loop-i.invariant c.requires.few c.loop-i-test.true c.sign-sign.result c.sign-sign.ensures
     c.requires.long c.put.new.row row c.end_of-at.result c.end_of-at.ensures
 
 pub overflow_add-at : goal.overflow_add-at
@@ -38,4 +35,4 @@ overflow_add-at c = record { fits = omega (arith, (more c).low, below (goal.at.o
 
 pub loop-i-preserved : goal.loop-i-preserved
 loop-i-preserved c =
-    (more c, c.sign-sign.ensures.1 ∙ c.loop-i.invariant.1)
+    more c
