@@ -98,3 +98,11 @@ letter_own b l h g e q n =
     let own = agreed (λ k. is_letter (class_of k) && not (eqb (code (class_of k)) 8)) letters refl l g in
     let m = ne_eqb (code (class_of l)) 8 (λ z. n (q ∙ z)) in
     sym (eq-eqb (code (class_of b)) (code (class_of l)) q) ∙ told b l h (sym own ∙ rw (e, m))
+
+-- white space, by comparisons
+abbrev pub is_space : ℕ → Bool
+is_space b = eqb b 32 || (eqb b 9 || (eqb b 10 || eqb b 13))
+
+pub space-white : (b : ℕ) → b < 256 → is_space b ≡ is_white (class_of b)
+unfolding first_from
+space-white b h = agreed is_space (λ k. is_white (class_of k)) refl b h
