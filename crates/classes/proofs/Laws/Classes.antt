@@ -1,7 +1,7 @@
 -- The table at a byte, what the order of the classes is good for, and tests that agree at all bytes: each is computed once over all 256.
 -- Assumes nothing.
 use mathlib.Core.Path.{◌≡◌, refl, sym, ap, ◌∙◌, subst⁻¹}
-use mathlib.Core.Bool.{Bool, true, false, false≢true, cond, not, ◌&&◌, ◌||◌}
+use mathlib.Core.Bool.{Bool, true, false, false≢true, not, ◌&&◌, ◌||◌}
 use Prim.Native.Nat.{ℕ, ◌<◌}
 use native.Mathlib.Omega.{arith}
 use lib.Dec.{eqb, ltb}
@@ -101,7 +101,7 @@ letter_own b l h g e q n =
 
 -- white space, by comparisons
 abbrev pub is_space : ℕ → Bool
-is_space b = cond (ltb 32 b) false (cond (eqb b 32) true (cond (eqb b 9) true (cond (eqb b 10) true (eqb b 13))))
+is_space b = eqb b 32 || (eqb b 9 || (eqb b 10 || eqb b 13))
 
 pub space-white : (b : ℕ) → b < 256 → is_space b ≡ is_white (class_of b)
 unfolding first_from

@@ -2,19 +2,15 @@
 -- Both loops go on by one law. Assumes nothing.
 use mathlib.Core.Path.{◌≡◌, sym, ◌∙◌}
 use mathlib.Core.Bool.{false, true}
-use mathlib.Core.List.{List}
-use Prim.Native.Nat.{ℕ, ◌+◌, ◌-◌, ◌<◌}
+use Prim.Native.Nat.{◌+◌, ◌-◌, ◌<◌}
 use native.Mathlib.Omega.{arith}
 use lib.ListN.{length, drop}
 use Rattle.header.specs.Inner.Heads.{is_over, is_comment}
 use Rattle.header.proofs.Laws.Steps.{run-over}
 use Rattle.header.proofs.Laws.Reading.{Nearer, left, left-more, nearer_step}
 use Rattle.header.proofs.Laws.Reading.{nearer_comment, left-comment}
-use Rattle.header.proofs.read.Goals.{After-comment-head, At-loop-head, At-loop-head-2, Else-is_over, Then-is_comment}
+use Rattle.header.proofs.read.Goals.{After-comment-head, At-loop-head-2, Else-is_over, Then-is_comment}
 use Rattle.header.proofs.read.Goals as goal
-
-abbrev text_of : At-loop-head → List ℕ
-text_of c = c.args.text.now
 
 more : (c : Else-is_over) → is_over c.loop-head.head.phase ≡ false
 more c = sym c.is_over.ensures ∙ c.if-is_over.false
@@ -38,9 +34,11 @@ loop-head-2-init c =
 
 -- behind the comments less is left than before this turn
 less-left : (c : At-loop-head-2)
-    → left (text_of (goal.at.At-loop-head-2 c).At-loop-head) c.loop-head-2.head < left (text_of (goal.at.At-loop-head-2 c).At-loop-head) c.loop-head.head
+    → let text = c.args.text.now in
+    left text c.loop-head-2.head < left text c.loop-head.head
 less-left c =
-    omega (arith, c.loop-head-2.invariant.less, left-more (text_of (goal.at.At-loop-head-2 c).At-loop-head) c.loop-head.head (more (goal.at.At-loop-head-2 c).Else-is_over))
+    let text = c.args.text.now in
+    omega (arith, c.loop-head-2.invariant.less, left-more text c.loop-head.head (more (goal.at.At-loop-head-2 c).Else-is_over))
 
 -- one byte of a comment on
 on : (c : After-comment-head) → let x = c.args in Nearer x.form x.text.now c.loop-head-2.head.place c.comment-head.result
@@ -50,8 +48,8 @@ on c =
     nearer_comment x.form x.text.now l.head l.invariant.reading c.loop-head-2-test.true (in-comment (goal.at.After-comment-head c).Then-is_comment)
     c.comment-head.result c.comment-head.ensures
 
-was : (c : Then-is_comment) → let t = text_of (goal.at.Then-is_comment c).At-loop-head in left t c.loop-head-2.head ≡ length t - c.loop-head-2.head.place + 1
-was c = left-comment (text_of (goal.at.Then-is_comment c).At-loop-head) c.loop-head-2.head (in-comment c)
+was : (c : Then-is_comment) → let t = c.args.text.now in left t c.loop-head-2.head ≡ length t - c.loop-head-2.head.place + 1
+was c = left-comment c.args.text.now c.loop-head-2.head (in-comment c)
 
 pub loop-head-2-smaller : goal.loop-head-2-smaller
 loop-head-2-smaller c = omega (arith, (on c).less, was (goal.at.loop-head-2-smaller c).Then-is_comment)

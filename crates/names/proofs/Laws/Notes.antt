@@ -128,7 +128,8 @@ module _ {list : List ℕ} {n : ℕ} {notes : Notes} {at i : ℕ} (h : Noting li
       }
 
   -- a 32nd name
-  pub noting_more : (i + 1) % 32 ≡ 0 → n ≤ 32_000 → Noting list n (record { begins = set notes.begins ((i + 1) / 32) next; last = notes.last; at = notes.at }) next (i + 1)
+  pub noting_more : (i + 1) % 32 ≡ 0 → n ≤ 32_000
+      → Noting list n (record { begins = set notes.begins ((i + 1) / 32) next; last = notes.last; at = notes.at }) next (i + 1)
   noting_more f few =
       let k = i / 32 + 1 in
       let e : (i + 1) / 32 ≡ i / 32 + 1 = omega arith in
@@ -137,7 +138,8 @@ module _ {list : List ℕ} {n : ℕ} {notes : Notes} {at i : ℕ} (h : Noting li
         up_to = omega arith;
         reached = r;
         noted = (λ t. record { begins = set ((h.noted t).begins) (e t) next; last = (h.noted t).last; at = (h.noted t).at })
-            ∙ ap (λ (l : List ℕ). record { begins = l; last = 0; at = 0 }) (pad_up_to (block_of list) 0 1_022 k next (omega arith) (r.place ∙ ap (place_of list) (sym g)))
+            ∙ ap (λ (l : List ℕ). record { begins = l; last = 0; at = 0 })
+            (pad_up_to (block_of list) 0 1_022 k next (omega arith) (r.place ∙ ap (place_of list) (sym g)))
             ∙ ap (λ (j : ℕ). noted_up_to list (j + 1)) (sym e);
       }
 

@@ -28,7 +28,8 @@ returns-then-not-is_digit c =
 -- a leading zero, or over the limit
 pub returns-in_err-value : goal.returns-in_err-value
 returns-in_err-value c =
-    c.from_residual.ensures ∙ reading_over c.loop-i.invariant.1 c.loop-i-test.true (sym (taken (goal.at.returns-in_err-value c).After-grown) ∙ c.in_err-value.was)
+    c.from_residual.ensures
+    ∙ reading_over c.loop-i.invariant.1 c.loop-i-test.true (sym (taken (goal.at.returns-in_err-value c).After-grown) ∙ c.in_err-value.was)
 
 pub loop-i-preserved : goal.loop-i-preserved
 loop-i-preserved c =
