@@ -3,9 +3,11 @@
 use mathlib.Core.Path.{◌≡◌, refl}
 use mathlib.Core.List.{List, [], ◌∷◌, ◌++◌}
 use Prim.Native.Nat.{ℕ}
-use lib.ListN.{replicate, length}
-use Rattle.answer.specs.declared.Answer.{Answer}
-use Rattle.answer.specs.declared.Answer.TheVariants.{Accepted, TableLength, Record, Set, NoClause, Names, Room}
+use lib.ListN.{replicate}
+use Rattle.answer.specs.Answers.{Answer}
+use Rattle.answer.specs.Answers.{accepted_with}
+use Rattle.std.specs.Prelude.{Err}
+use Rattle.answer.specs.declared.Refusal.TheVariants.{TableLength, Set, NoClause, Names, Room}
 use Rattle.laws.specs.Lists.{first_from, up_to}
 use Rattle.marks.specs.Marks.{down_from}
 use Rattle.formula.specs.Tables.{nodes_of}
@@ -78,51 +80,51 @@ abbrev answers : ℕ → List ℕ → List ℕ → ℕ → Answer
 answers k names others n = (origin_call negation 2 second k names others (replicate n 0)).answer
 
 -- the line of clause 1 has 21 bytes
-just-fits : answers 1 options helpers 21 ≡ Accepted 3 2
+just-fits : answers 1 options helpers 21 ≡ accepted_with 3 2
 unfolding first_from up_to down_from definitions renamed_below digits parted has names_are lines_of
 just-fits = refl
 
-one-byte-short : answers 1 options helpers 20 ≡ Room
+one-byte-short : answers 1 options helpers 20 ≡ Err Room
 unfolding first_from up_to down_from definitions renamed_below digits parted has names_are lines_of
 one-byte-short = refl
 
 -- clause 2 is not there, whatever the lists are
-at_the_count : answers 2 [] [] 0 ≡ NoClause 2
+at_the_count : answers 2 [] [] 0 ≡ Err (NoClause 2)
 unfolding first_from up_to down_from definitions renamed_below digits parted has names_are lines_of
 at_the_count = refl
 
 -- a name short, and a name too many; the room is looked at later
-name-short : answers 1 (97 ∷ 10 ∷ []) helpers 0 ≡ Names
+name-short : answers 1 (97 ∷ 10 ∷ []) helpers 0 ≡ Err Names
 unfolding first_from up_to down_from definitions renamed_below digits parted has names_are lines_of
 name-short = refl
 
-name_too_many : answers 1 options (helpers ++ helpers) 0 ≡ Names
+name_too_many : answers 1 options (helpers ++ helpers) 0 ≡ Err Names
 unfolding first_from up_to down_from definitions renamed_below digits parted has names_are lines_of
 name_too_many = refl
 
 -- a set that is too short comes before all of these, and a wrong table before it
-set_first : (origin_call negation 2 [] 9 [] [] []).answer ≡ Set 4
+set_first : (origin_call negation 2 [] 9 [] [] []).answer ≡ Err (Set 4)
 unfolding first_from up_to down_from definitions renamed_below digits parted has names_are lines_of
 set_first = refl
 
-table-first : (origin_call [] 2 [] 9 [] [] []).answer ≡ TableLength
+table-first : (origin_call [] 2 [] 9 [] [] []).answer ≡ Err TableLength
 unfolding first_from up_to down_from definitions renamed_below digits parted has names_are lines_of
 table-first = refl
 
 -- all lines of R14.8 have 39 bytes
-all_lines : (origins_call negation 2 second options helpers (replicate 39 0)).answer ≡ Accepted 3 2
+all_lines : (origins_call negation 2 second options helpers (replicate 39 0)).answer ≡ accepted_with 3 2
 unfolding first_from up_to down_from definitions renamed_below digits parted has names_are lines_of
 all_lines = refl
 
-all-lines-short : (origins_call negation 2 second options helpers (replicate 38 0)).answer ≡ Room
+all-lines-short : (origins_call negation 2 second options helpers (replicate 38 0)).answer ≡ Err Room
 unfolding first_from up_to down_from definitions renamed_below digits parted has names_are lines_of
 all-lines-short = refl
 
 -- true has no clause: there is no line, and no clause 0
-no_lines : (origins_call (1 ∷ 0 ∷ 0 ∷ 0 ∷ 0 ∷ []) 0 (0 ∷ []) [] [] []).answer ≡ Accepted 0 0
+no_lines : (origins_call (1 ∷ 0 ∷ 0 ∷ 0 ∷ 0 ∷ []) 0 (0 ∷ []) [] [] []).answer ≡ accepted_with 0 0
 unfolding first_from up_to down_from definitions renamed_below digits parted has names_are lines_of
 no_lines = refl
 
-no_first : (origin_call (1 ∷ 0 ∷ 0 ∷ 0 ∷ 0 ∷ []) 0 (0 ∷ []) 0 [] [] []).answer ≡ NoClause 0
+no_first : (origin_call (1 ∷ 0 ∷ 0 ∷ 0 ∷ 0 ∷ []) 0 (0 ∷ []) 0 [] [] []).answer ≡ Err (NoClause 0)
 unfolding first_from up_to down_from definitions renamed_below digits parted has names_are lines_of
 no_first = refl

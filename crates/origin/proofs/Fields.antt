@@ -6,7 +6,7 @@ use mathlib.Core.List.{List, [], ◌∷◌, ◌++◌, map, append_assoc}
 use Prim.Native.Nat.{ℕ, zero, suc, ◌+◌, ◌-◌, ◌≤◌, ◌<◌}
 use native.Mathlib.Omega.{arith}
 use lib.Dec.{eqb, leb}
-use lib.ListN.{length, get_or, get_or-append}
+use lib.ListN.{get_or, get_or-append}
 use borrow.Author.Tests.{leb-true, leb-false}
 use Rattle.laws.specs.Lists.{Every, none, more, up_to}
 use Rattle.laws.proofs.Choices.{both}
@@ -15,7 +15,7 @@ use Rattle.formula.specs.declared.node.Node.{Node}
 use Rattle.text.specs.Texts.{decimal, parted, joined}
 use Rattle.text.specs.Inner.Numbers.{is_digit}
 use Rattle.text.proofs.Laws.Pieces.{free, parted-whole, parted_piece, decimal-free}
-use Rattle.names.specs.Names.{tab, newline, has, is_none, is_name, right_names, name_in, name_of}
+use Rattle.names.specs.Names.{tab, newline, has, is_none, right_names, name_in, name_of}
 use Rattle.names.proofs.Laws.Names.{name-right, name_no_newline}
 use Rattle.clausal.specs.Clauses.{Literal, Clause, Renaming}
 use Rattle.clausal.specs.Output.{Direction, root, down, up, output_of}

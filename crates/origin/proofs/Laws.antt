@@ -1,9 +1,9 @@
--- Laws of lines and of the parts that they speak of, by subject.
+-- Laws of origins, by subject.
 pub mod Clauses
 pub mod Firsts
 pub mod Lines
-pub mod Opens
 pub mod Only
+pub mod Opens
 pub mod Pens
 pub mod Shown
 pub mod Sources

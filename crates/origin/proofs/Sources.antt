@@ -10,10 +10,10 @@ use Rattle.formula.specs.declared.node.Node.{Node}
 use Rattle.marks.specs.Marks.{mark_of, halves_of}
 use Rattle.marks.specs.Sets.{renamed}
 use Rattle.clausal.specs.Clauses.{clauses, Clause, Renaming}
-use Rattle.clausal.specs.Output.{Direction, root, down, up, Part, root_part, down_part, up_part, definition, definitions, parts_of, output_of}
-use Rattle.clausal.specs.Places.{Place, place_in, start_of, counts_of, contents_of, Stands}
-use Rattle.clausal.proofs.Places.{stands-only, output-stands, output-clause, clause-at, output_contents}
-use Rattle.origin.specs.Origins.{Source, part_in, source_at, source_of, Comes}
+use Rattle.clausal.specs.Output.{Direction, root, down, up, Part, down_part, up_part, definition, definitions, parts_of, output_of}
+use Rattle.clausal.specs.Places.{Place, place_in, start_of, counts_of, Stands}
+use Rattle.clausal.proofs.Places.{stands-only, output-stands, clause-at, output_contents}
+use Rattle.origin.specs.Origins.{part_in, source_of, Comes}
 
 -- parts rise: the root part, then down and up of each node
 abbrev rank_by : Direction → ℕ → ℕ

@@ -2,8 +2,10 @@
 -- Assumes nothing: these are definitions.
 use Rattle.std.specs.Prelude.{cond, ◌&&◌, List, ℕ, ltb, length}
 use Rattle.answer.specs.Answers.{Wrote, afterwards, stored}
-use Rattle.answer.specs.declared.Answer.{Answer}
-use Rattle.answer.specs.declared.Answer.TheVariants.{Accepted, NoClause, Names}
+use Rattle.answer.specs.Answers.{Answer}
+use Rattle.answer.specs.Answers.{accepted_with}
+use Rattle.std.specs.Prelude.{Err}
+use Rattle.answer.specs.declared.Refusal.TheVariants.{NoClause, Names}
 use Rattle.formula.specs.Checks.{checked}
 use Rattle.formula.specs.Tables.{nodes_of}
 use Rattle.formula.specs.declared.node.Node.{Node}
@@ -17,18 +19,18 @@ use Rattle.origin.specs.Origins.{line_of, lines_of}
 
 -- R19.12: refusal 15 for a number that no clause has
 abbrev pub clause_checked : ℕ → ℕ → Answer
-clause_checked count k = cond (ltb k count) (Accepted 0 0) (NoClause k)
+clause_checked count k = cond (ltb k count) (accepted_with 0 0) (Err (NoClause k))
 
 -- R19.13: refusal 16, unless there are V names of options and a name for each helper
 abbrev pub names_checked : Renaming → List Node → List ℕ → List ℕ → Answer
 names_checked u ns options helpers =
-    cond (right_names u.taken options && right_names (renamed_below u.set (length ns)) helpers) (Accepted 0 0) Names
+    cond (right_names u.taken options && right_names (renamed_below u.set (length ns)) helpers) (accepted_with 0 0) (Err Names)
 
 -- R19.15: refusal 16, then 7; else lines are written, and variables and clauses are reported
 abbrev pub shown_with : Renaming → List Node → List ℕ → List ℕ → List ℕ → List ℕ → Wrote (List ℕ)
 shown_with u ns options helpers lines before =
     afterwards (names_checked u ns options helpers) before
-    (stored (Accepted (variables_of u (length ns)) (length (output_of u ns))) lines before)
+    (stored (accepted_with (variables_of u (length ns)) (length (output_of u ns))) lines before)
 
 -- refusal 4, then 5 and 6, before anything else
 abbrev pub counted : Renaming → List Node → List ℕ → Wrote (List ℕ) → Wrote (List ℕ)

@@ -1,200 +1,121 @@
 // The calls that tell where clauses come from: the line of one clause, or the lines of all.
 ghost use Rattle.std.specs.Prelude.{◌≡◌};
+ghost use Rattle.answer.specs.Answers.{accepted_with, stored};
 ghost use Rattle.formula.specs.Tables.{nodes_of};
 ghost use Rattle.clausal.specs.Clauses.{renaming};
-ghost use Rattle.origin.specs.Calls.{shown_with, origin_call, origins_call};
-ghost use Rattle.origin.specs.Inner.Shown.{Writing, Fitted, Listed, lines_between, Showable, shown_under};
+ghost use Rattle.origin.specs.Calls.{origin_call, origins_call};
+ghost use Rattle.origin.specs.Inner.Lines.{lists_of, Known, Tellable};
+ghost use Rattle.origin.specs.Inner.Shown.{spanned, lines_between, named_with, Listed, Showable, shown_under};
 
-use crate::line::put_lines;
-use answer::{Answer, is_refusal};
+use crate::line::{Span, put_lines};
+use crate::voices::Voices;
+use answer::{Accepted, Answer, Refusal};
 use convert::convert::below;
 use formula::node::MOST_NODES;
+use marks::mark::Marks;
 use names::list::{is_right, note};
 use parts::helper::name_all;
 use totals::prepare::prepare;
+use totals::rows::Columns;
+use walk::nodes::Nodes;
 
 // Measures lines, and writes them where there is room.
-fn write_lines<'a>(
-    table: &[u8],
-    options: u32,
-    marks: &[u8; 1024],
+fn write_lines(
+    nodes: &Nodes,
+    marks: &Marks,
     set: &[u8],
-    clauses: &[[u16; 1024]; 2],
-    literals: &[[u32; 1024]; 2],
-    helpers: &[u32; 1024],
-    count: usize,
-    option_names: &'a [u8],
-    helper_names: &'a [u8],
-    from: usize,
-    end: usize,
-    out: &mut [u8],
-) -> bool
-    requires { Writing table.now options marks.now set.now clauses.now literals.now helpers.now count
-        option_names.now helper_names.now from end }
-    ensures { Fitted (lines_between option_names.now helper_names.now (renaming options set.now)
-        (nodes_of table.now) from end) out.old result out.new }
-{
-    let mut option_notes = [0usize; 1024];
-    let mut helper_notes = [0usize; 1024];
-    note(option_names, options as usize, &mut option_notes);
-    note(helper_names, count, &mut helper_notes);
-    let measured = put_lines(
-        &table,
-        marks,
-        set,
-        clauses,
-        literals,
-        helpers,
-        option_names,
-        helper_names,
-        &mut option_notes,
-        &mut helper_notes,
-        options,
-        from,
-        end,
-        out,
-        false,
-    );
-    if !measured.fits {
-        return false;
-    }
-    put_lines(
-        &table,
-        marks,
-        set,
-        clauses,
-        literals,
-        helpers,
-        option_names,
-        helper_names,
-        &mut option_notes,
-        &mut helper_notes,
-        options,
-        from,
-        end,
-        out,
-        true,
-    );
-    true
-}
-
-// Checks both lists of names, and writes the lines of the clauses from `from` to before `end`.
-fn name_lines<'a>(
-    table: &[u8],
-    options: u32,
-    marks: &[u8; 1024],
-    set: &[u8],
-    clauses: &[[u16; 1024]; 2],
-    literals: &[[u32; 1024]; 2],
-    total: u32,
-    option_names: &'a [u8],
-    helper_names: &'a [u8],
-    from: usize,
-    end: usize,
+    voices: &mut Voices,
+    span: Span,
     out: &mut [u8],
 ) -> Answer
-    requires { Listed table.now options marks.now set.now clauses.now literals.now total from end }
-    ensures { record { answer = result; output = out.new } ≡ shown_with (renaming options set.now)
-        (nodes_of table.now) option_names.now helper_names.now
-        (lines_between option_names.now helper_names.now (renaming options set.now)
-        (nodes_of table.now) from end)
-        out.old }
+    requires tellable { Tellable nodes.now marks.now set.now (lists_of voices.old) span }
+    requires known { Known voices.old }
+    ensures { record { answer = result; output = out.new } ≡ stored (accepted_with 0 0)
+        (lines_between (lists_of voices.old) (renaming voices.old.options set.now) (nodes_of nodes.now.table.now) span) out.old }
 {
-    let mut helpers = [0u32; MOST_NODES];
-    let last = name_all(options, set, &mut helpers);
-    let count = (last - options) as usize;
-    if !is_right(option_names, options as usize) {
-        return Answer::Names;
+    let measured = put_lines(nodes, marks, set, voices, span, out, false);
+    if !measured.fits {
+        return Err(Refusal::Room);
     }
-    if !is_right(helper_names, count) {
-        return Answer::Names;
+    put_lines(nodes, marks, set, voices, span, out, true);
+    Ok(Accepted {
+        first: 0,
+        second: 0,
+    })
+}
+
+// Checks both lists of names, for as many helpers as are counted, and writes the lines of some clauses.
+fn name_lines(
+    nodes: &Nodes,
+    marks: &Marks,
+    set: &[u8],
+    voices: &mut Voices,
+    count: usize,
+    span: Span,
+    out: &mut [u8],
+) -> Answer
+    requires { Listed nodes.now marks.now set.now voices.old count span }
+    ensures { record { answer = result; output = out.new } ≡ named_with (lists_of voices.old)
+        (renaming voices.old.options set.now) (nodes_of nodes.now.table.now)
+        (lines_between (lists_of voices.old) (renaming voices.old.options set.now) (nodes_of nodes.now.table.now) span) out.old }
+{
+    let options = voices.options as usize;
+    if !is_right(voices.option_names, options) || !is_right(voices.helper_names, count) {
+        return Err(Refusal::Names);
     }
-    if !write_lines(
-        table,
-        options,
-        marks,
-        set,
-        clauses,
-        literals,
-        &helpers,
-        count,
-        option_names,
-        helper_names,
-        from,
-        end,
-        out,
-    ) {
-        return Answer::Room;
-    }
-    Answer::Accepted {
-        first: last,
-        second: total,
+    note(voices.option_names, options, &mut voices.option_notes);
+    note(voices.helper_names, count, &mut voices.helper_notes);
+    write_lines(nodes, marks, set, voices, span, out)
+}
+
+// The numbers of the clauses that are told: of one clause, where there is such a one, or of all.
+fn span(clause: Option<u32>, total: u32) -> Result<Span, Refusal>
+    ensures { result ≡ spanned clause total }
+{
+    match clause {
+        None => Ok(Span {
+            from: 0,
+            end: total as usize,
+        }),
+        Some(k) if k < total => Ok(Span {
+            from: k as usize,
+            end: k as usize + 1,
+        }),
+        Some(k) => Err(Refusal::NoClause { clause: k }),
     }
 }
 
 // Checks a set for a table that is right, the totals and a clause's number, and writes the line of this clause alone, or of all.
-fn show_under<'a>(
+fn show_under(
     table: &[u8],
-    options: u32,
     set: &[u8],
-    alone: bool,
-    clause: u32,
-    option_names: &'a [u8],
-    helper_names: &'a [u8],
+    clause: Option<u32>,
+    voices: &mut Voices,
     out: &mut [u8],
 ) -> Answer
-    requires { Showable table.now options }
-    ensures { record { answer = result; output = out.new } ≡ shown_under alone (renaming options set.now)
-        (nodes_of table.now) clause option_names.now helper_names.now out.old }
+    requires { Showable table.now voices.old }
+    ensures { record { answer = result; output = out.new } ≡ shown_under clause (lists_of voices.old)
+        (renaming voices.old.options set.now) (nodes_of table.now) out.old }
 {
     let mut marks = [0u8; MOST_NODES];
-    let mut clauses = [[0u16; MOST_NODES]; 2];
-    let mut literals = [[0u32; MOST_NODES]; 2];
-    let prepared = prepare(table, set, &mut marks, &mut clauses, &mut literals);
-    let right = prepared.right;
-    if is_refusal(right) {
-        return right;
-    }
-    let sum = prepared.sum;
-    let high = below(sum);
-    if is_refusal(high) {
-        return high;
-    }
-    let total = sum.clauses.n as u32;
-    if !alone {
-        return name_lines(
-            table,
-            options,
-            &marks,
-            set,
-            &clauses,
-            &literals,
-            total,
-            option_names,
-            helper_names,
-            0,
-            total as usize,
-            out,
-        );
-    }
-    if total <= clause {
-        return Answer::NoClause { clause };
-    }
-    let k = clause as usize;
-    name_lines(
+    let mut columns = Columns::blank();
+    let sum = prepare(table, set, &mut marks, &mut columns)?;
+    below(sum)?;
+    let total = u32::from(sum.clauses.n);
+    let told = span(clause, total)?;
+    let mut helpers = [0u32; MOST_NODES];
+    let last = name_all(voices.options, set, &mut helpers);
+    let nodes = Nodes {
         table,
-        options,
-        &marks,
-        set,
-        &clauses,
-        &literals,
-        total,
-        option_names,
-        helper_names,
-        k,
-        k + 1,
-        out,
-    )
+        columns: &columns,
+        helpers: &helpers,
+    };
+    let count = (last - voices.options) as usize;
+    name_lines(&nodes, &marks, set, voices, count, told, out)?;
+    Ok(Accepted {
+        first: last,
+        second: total,
+    })
 }
 
 // Checks a table, a set, a clause's number and two lists of names, and writes the line that tells where the clause comes from:
@@ -211,20 +132,9 @@ pub fn origin<'a>(
     ensures { record { answer = result; output = line.new } ≡ origin_call table.now options set.now clause
         option_names.now helper_names.now line.old }
 {
-    let checked = formula::table::check(table, options);
-    if is_refusal(checked) {
-        return checked;
-    }
-    show_under(
-        table,
-        options,
-        set,
-        true,
-        clause,
-        option_names,
-        helper_names,
-        line,
-    )
+    formula::table::check(table, options)?;
+    let mut voices = Voices::new(options, option_names, helper_names);
+    show_under(table, set, Some(clause), &mut voices, line)
 }
 
 // The same for all clauses, one line after the other.
@@ -239,18 +149,7 @@ pub fn origins<'a>(
     ensures { record { answer = result; output = lines.new } ≡ origins_call table.now options set.now
         option_names.now helper_names.now lines.old }
 {
-    let checked = formula::table::check(table, options);
-    if is_refusal(checked) {
-        return checked;
-    }
-    show_under(
-        table,
-        options,
-        set,
-        false,
-        0,
-        option_names,
-        helper_names,
-        lines,
-    )
+    formula::table::check(table, options)?;
+    let mut voices = Voices::new(options, option_names, helper_names);
+    show_under(table, set, None, &mut voices, lines)
 }

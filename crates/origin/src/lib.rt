@@ -6,3 +6,4 @@ mod line;
 mod literal;
 mod part;
 mod pen;
+mod voices;

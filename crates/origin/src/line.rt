@@ -1,21 +1,32 @@
 // The line of a clause: where it comes from, and the names of its literals.
-ghost use Rattle.std.specs.Prelude.{cond, true, [], ◌∷◌, ◌++◌, ◌≡◌, ◌-◌, ◌+◌, ◌<◌, length, get_or};
+ghost use Rattle.std.specs.Prelude.{cond, true, [], ◌∷◌, ◌≡◌, ◌-◌, ◌<◌};
 ghost use Rattle.formula.specs.Tables.{nodes_of};
 ghost use Rattle.clausal.specs.Clauses.{renaming};
-ghost use Rattle.names.specs.Names.{name_of};
-ghost use Rattle.walk.specs.Inner.Lists.{names_in, own_list};
+ghost use Rattle.walk.specs.Inner.Lists.{names_in, own_clause};
 ghost use Rattle.parts.specs.Inner.Parts.{helper_literal};
-ghost use Rattle.origin.specs.Inner.Spots.{direction_of, sign_of};
+ghost use Rattle.origin.specs.Inner.Spots.{direction_of};
 ghost use Rattle.origin.specs.Origins.{direction_word};
 ghost use Rattle.origin.specs.Inner.Grounds.{spot_clause, spot_line};
-ghost use Rattle.origin.specs.Inner.Lines.{field_text, source_text, literals_text, lines_from, Known, Voiced, Spoken, Spotted, Tellable};
+ghost use Rattle.origin.specs.Inner.Lines.{lists_of, named, field_text, source_text, literals_text, lines_from};
+ghost use Rattle.origin.specs.Inner.Lines.{Known, Voiced, Spoken, Spotted, Tellable};
 ghost use Rattle.origin.specs.Inner.Pens.{Standing, Drawn};
-ghost use Rattle.origin.specs.Inner.Ways.{Startable};
+ghost use Rattle.origin.specs.Inner.Ways.{as_literal, Startable};
 
-use crate::literal::{first, next};
+use crate::literal::{Literal, Ways, first, next};
 use crate::part::{Direction, Spot, find};
 use crate::pen::{Pen, put, put_decimal};
+use crate::voices::Voices;
+use marks::mark::Marks;
 use names::lookup::lookup;
+use walk::nodes::Nodes;
+use walk::step::Way;
+
+// The numbers of some clauses: from one to before another.
+#[derive(Clone, Copy)]
+pub struct Span {
+    pub from: usize,
+    pub end: usize,
+}
 
 // Puts a number in decimal and a tab.
 fn put_field(out: &mut [u8], pen: Pen, number: u32) -> Pen
@@ -44,11 +55,10 @@ fn put_source(out: &mut [u8], pen: Pen, k: u32, helper: u32, spot: Spot) -> Pen
     requires node_bound { (spot.node < 65_536) × (spot.number < 65_536) }
     ensures { Drawn (source_text k helper spot) out.old pen out.new result }
 {
-    let direction = spot.direction;
     let clause = put_field(out, pen, k);
     let node = put_field(out, clause, spot.node as u32);
     let named = put_field(out, node, helper);
-    let word = put_direction(out, named, direction);
+    let word = put_direction(out, named, spot.direction);
     let tab = put(out, word, b"\t");
     put_decimal(out, tab, spot.number as u32)
 }
@@ -59,273 +69,114 @@ fn put_sign(out: &mut [u8], pen: Pen, plain: bool) -> Pen
     ensures { Drawn (9 ∷ cond plain [] (33 ∷ [])) out.old pen out.new result }
 {
     if plain {
-        return put(out, pen, b"\t");
+        put(out, pen, b"\t")
+    } else {
+        put(out, pen, b"\t!")
     }
-    put(out, pen, b"\t!")
 }
 
 // Puts the name of a literal's variable, as a part of its list, with what stands before it.
-fn put_literal<'a>(
-    option_names: &'a [u8],
-    helper_names: &'a [u8],
-    option_notes: &mut [usize; 1024],
-    helper_notes: &mut [usize; 1024],
-    options: u32,
-    plain: bool,
-    variable: u32,
-    out: &mut [u8],
-    pen: Pen,
-) -> Pen
-    requires { Voiced option_names.now helper_names.now option_notes.old helper_notes.old options
-        (record { plain = plain; variable = variable } ∷ []) out.old pen }
-    ensures { Spoken (literals_text (name_of option_names.now helper_names.now options)
-        (record { plain = plain; variable = variable } ∷ []))
-        option_names.now helper_names.now options out.old pen
-        option_notes.new helper_notes.new out.new result }
+fn put_literal(voices: &mut Voices, literal: Literal, out: &mut [u8], pen: Pen) -> Pen
+    requires { Voiced voices.old (as_literal literal ∷ []) out.old pen }
+    ensures { Spoken (literals_text (named (lists_of voices.old)) (as_literal literal ∷ [])) (lists_of voices.old) out.old pen
+        voices.new out.new result }
 {
     let name = lookup(
-        option_names,
-        helper_names,
-        option_notes,
-        helper_notes,
-        options as usize,
-        variable as usize,
+        voices.option_names,
+        voices.helper_names,
+        &mut voices.option_notes,
+        &mut voices.helper_notes,
+        voices.options as usize,
+        literal.variable as usize,
     );
-    let sign = put_sign(out, pen, plain);
+    let sign = put_sign(out, pen, literal.plain);
     put(out, sign, name)
 }
 
 // The same for the literal of a helper, where it stands here and there is one.
-fn put_helper<'a>(
-    option_names: &'a [u8],
-    helper_names: &'a [u8],
-    option_notes: &mut [usize; 1024],
-    helper_notes: &mut [usize; 1024],
-    options: u32,
+fn put_helper(
+    voices: &mut Voices,
     here: bool,
     plain: bool,
     helper: u32,
     out: &mut [u8],
     pen: Pen,
 ) -> Pen
-    requires { Voiced option_names.now helper_names.now option_notes.old helper_notes.old options
-        (helper_literal here plain helper) out.old pen }
-    ensures { Spoken (literals_text (name_of option_names.now helper_names.now options)
-        (helper_literal here plain helper))
-        option_names.now helper_names.now options out.old pen
-        option_notes.new helper_notes.new out.new result }
+    requires { Voiced voices.old (helper_literal here plain helper) out.old pen }
+    ensures { Spoken (literals_text (named (lists_of voices.old)) (helper_literal here plain helper)) (lists_of voices.old)
+        out.old pen voices.new out.new result }
 {
-    if !here {
+    if !here || helper == 0 {
         return pen;
     }
-    if helper == 0 {
-        return pen;
-    }
-    put_literal(
-        option_names,
-        helper_names,
-        option_notes,
-        helper_notes,
-        options,
+    let literal = Literal {
         plain,
-        helper,
-        out,
-        pen,
-    )
+        variable: helper,
+    };
+    put_literal(voices, literal, out, pen)
 }
 
-// Puts the literals of clause k of a node's own list for a sign.
-fn put_own<'a>(
-    table: &&[u8],
-    clauses: &[[u16; 1024]; 2],
-    literals: &[[u32; 1024]; 2],
-    helpers: &[u32; 1024],
-    option_names: &'a [u8],
-    helper_names: &'a [u8],
-    option_notes: &mut [usize; 1024],
-    helper_notes: &mut [usize; 1024],
-    options: u32,
-    node: usize,
-    sign: bool,
-    k: usize,
-    out: &mut [u8],
-    pen: Pen,
-) -> Pen
-    requires startable { Startable table.now.now clauses.now literals.now helpers.now node sign k }
-    requires voiced { Voiced option_names.now helper_names.now option_notes.old helper_notes.old options
-        (get_or (own_list (names_in helpers.now) (nodes_of table.now.now) node sign) k []) out.old pen }
-    ensures { Spoken (literals_text (name_of option_names.now helper_names.now options)
-        (get_or (own_list (names_in helpers.now) (nodes_of table.now.now) node sign) k []))
-        option_names.now helper_names.now options out.old pen
-        option_notes.new helper_notes.new out.new result }
+// Puts the literals of a clause of a node's own list.
+fn put_own(nodes: &Nodes, voices: &mut Voices, way: Way, out: &mut [u8], pen: Pen) -> Pen
+    requires startable { Startable nodes.now way }
+    requires voiced { Voiced voices.old (own_clause nodes.now way) out.old pen }
+    ensures { Spoken (literals_text (named (lists_of voices.old)) (own_clause nodes.now way)) (lists_of voices.old) out.old pen
+        voices.new out.new result }
 {
-    let mut ways = [0u32; 1024];
+    let mut ways = Ways::new();
     let mut next_pen = pen;
-    let mut found = first(table, clauses, literals, helpers, &mut ways, node, sign, k);
-    while found.is {
-        next_pen = put_literal(
-            option_names,
-            helper_names,
-            option_notes,
-            helper_notes,
-            options,
-            found.plain,
-            found.variable,
-            out,
-            next_pen,
-        );
-        found = next(table, clauses, literals, helpers, &mut ways, found.depth);
+    let mut found = first(nodes, &mut ways, way);
+    while let Some(literal) = found {
+        next_pen = put_literal(voices, literal, out, next_pen);
+        found = next(nodes, &mut ways);
     }
     next_pen
 }
 
-// Whether a part has the list of a node for a positive sign.
-fn is_positive(direction: Direction) -> bool
-    ensures { result ≡ sign_of direction }
-{
-    match direction {
-        Direction::Root => true,
-        Direction::Down => true,
-        Direction::Up => false,
-    }
-}
-
 // Puts the literals of a clause of a part, the literal of the node's helper among them.
-fn put_clause<'a>(
-    table: &&[u8],
-    clauses: &[[u16; 1024]; 2],
-    literals: &[[u32; 1024]; 2],
-    helpers: &[u32; 1024],
-    option_names: &'a [u8],
-    helper_names: &'a [u8],
-    option_notes: &mut [usize; 1024],
-    helper_notes: &mut [usize; 1024],
-    options: u32,
-    spot: Spot,
-    out: &mut [u8],
-    pen: Pen,
-) -> Pen
-    requires { Spotted table.now.now clauses.now literals.now helpers.now option_names.now helper_names.now
-        option_notes.old helper_notes.old options spot out.old pen }
-    ensures { Spoken (literals_text (name_of option_names.now helper_names.now options)
-        (spot_clause (names_in helpers.now) (nodes_of table.now.now) spot))
-        option_names.now helper_names.now options out.old pen
-        option_notes.new helper_notes.new out.new result }
+fn put_clause(nodes: &Nodes, voices: &mut Voices, spot: Spot, out: &mut [u8], pen: Pen) -> Pen
+    requires { Spotted nodes.now voices.old spot out.old pen }
+    ensures { Spoken (literals_text (named (lists_of voices.old))
+        (spot_clause (names_in nodes.now.helpers.now) (nodes_of nodes.now.table.now) spot)) (lists_of voices.old) out.old pen
+        voices.new out.new result }
 {
-    let direction = spot.direction;
-    let node = spot.node;
-    let sign = is_positive(direction);
-    let helper = helpers[node];
-    let front = put_helper(
-        option_names,
-        helper_names,
-        option_notes,
-        helper_notes,
-        options,
-        sign,
-        false,
-        helper,
-        out,
-        pen,
-    );
-    let own = put_own(
-        table,
-        clauses,
-        literals,
-        helpers,
-        option_names,
-        helper_names,
-        option_notes,
-        helper_notes,
-        options,
-        node,
-        sign,
-        spot.number,
-        out,
-        front,
-    );
-    put_helper(
-        option_names,
-        helper_names,
-        option_notes,
-        helper_notes,
-        options,
-        !sign,
-        true,
-        helper,
-        out,
-        own,
-    )
+    let way = Way {
+        node: spot.node,
+        sign: spot.direction.is_positive(),
+        k: spot.number,
+    };
+    let helper = nodes.helpers[way.node];
+    let front = put_helper(voices, way.sign, false, helper, out, pen);
+    let own = put_own(nodes, voices, way, out, front);
+    put_helper(voices, !way.sign, true, helper, out, own)
 }
 
 // Puts the line of clause k, which stands at a spot.
-fn put_line<'a>(
-    table: &&[u8],
-    clauses: &[[u16; 1024]; 2],
-    literals: &[[u32; 1024]; 2],
-    helpers: &[u32; 1024],
-    option_names: &'a [u8],
-    helper_names: &'a [u8],
-    option_notes: &mut [usize; 1024],
-    helper_notes: &mut [usize; 1024],
-    options: u32,
-    k: u32,
-    spot: Spot,
-    out: &mut [u8],
-    pen: Pen,
-) -> Pen
-    requires { Spotted table.now.now clauses.now literals.now helpers.now option_names.now helper_names.now
-        option_notes.old helper_notes.old options spot out.old pen }
-    ensures { Spoken (spot_line (names_in helpers.now) (nodes_of table.now.now)
-        (name_of option_names.now helper_names.now options) k spot)
-        option_names.now helper_names.now options out.old pen
-        option_notes.new helper_notes.new out.new result }
+fn put_line(nodes: &Nodes, voices: &mut Voices, k: u32, spot: Spot, out: &mut [u8], pen: Pen) -> Pen
+    requires { Spotted nodes.now voices.old spot out.old pen }
+    ensures { Spoken (spot_line (names_in nodes.now.helpers.now) (nodes_of nodes.now.table.now) (named (lists_of voices.old)) k spot)
+        (lists_of voices.old) out.old pen voices.new out.new result }
 {
-    let node = spot.node;
-    let source = put_source(out, pen, k, helpers[node], spot);
-    let names = put_clause(
-        table,
-        clauses,
-        literals,
-        helpers,
-        option_names,
-        helper_names,
-        option_notes,
-        helper_notes,
-        options,
-        spot,
-        out,
-        source,
-    );
+    let source = put_source(out, pen, k, nodes.helpers[spot.node], spot);
+    let names = put_clause(nodes, voices, spot, out, source);
     put(out, names, b"\n")
 }
 
-// Puts the lines of the clauses from `from` to before `end`.
-pub fn put_lines<'a>(
-    table: &&[u8],
-    marks: &[u8; 1024],
+// Puts the lines of some clauses.
+pub fn put_lines(
+    nodes: &Nodes,
+    marks: &Marks,
     set: &[u8],
-    clauses: &[[u16; 1024]; 2],
-    literals: &[[u32; 1024]; 2],
-    helpers: &[u32; 1024],
-    option_names: &'a [u8],
-    helper_names: &'a [u8],
-    option_notes: &mut [usize; 1024],
-    helper_notes: &mut [usize; 1024],
-    options: u32,
-    from: usize,
-    end: usize,
+    voices: &mut Voices,
+    span: Span,
     out: &mut [u8],
     writing: bool,
 ) -> Pen
-    requires tellable { Tellable table.now.now options marks.now set.now clauses.now literals.now helpers.now
-        option_names.now helper_names.now from end }
-    requires known { Known option_names.now helper_names.now option_notes.old helper_notes.old options }
-    ensures { Spoken (lines_from (name_of option_names.now helper_names.now options)
-        (renaming options set.now) (nodes_of table.now.now) from (end - from))
-        option_names.now helper_names.now options out.old
-        (record { at = 0; fits = true; writing = writing })
-        option_notes.new helper_notes.new out.new result }
+    requires tellable { Tellable nodes.now marks.now set.now (lists_of voices.old) span }
+    requires known { Known voices.old }
+    ensures { Spoken (lines_from (named (lists_of voices.old)) (renaming voices.old.options set.now)
+        (nodes_of nodes.now.table.now) span.from (span.end - span.from)) (lists_of voices.old) out.old
+        (record { at = 0; fits = true; writing = writing }) voices.new out.new result }
 {
     let mut pen = Pen {
         at: 0,
@@ -335,33 +186,15 @@ pub fn put_lines<'a>(
     let mut spot = Spot {
         direction: Direction::Root,
         node: set.len() - 1,
-        number: from,
+        number: span.from,
     };
-    let mut k = from;
-    while k < end {
-        let stands = find(marks, set, clauses, spot);
-        pen = put_line(
-            table,
-            clauses,
-            literals,
-            helpers,
-            option_names,
-            helper_names,
-            option_notes,
-            helper_notes,
-            options,
-            k as u32,
-            stands,
-            out,
-            pen,
-        );
-        let direction = stands.direction;
+    for k in span.from..span.end {
+        let stands = find(marks, set, nodes.columns, spot);
+        pen = put_line(nodes, voices, k as u32, stands, out, pen);
         spot = Spot {
-            direction,
-            node: stands.node,
             number: stands.number + 1,
+            ..stands
         };
-        k += 1;
     }
     pen
 }

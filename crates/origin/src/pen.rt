@@ -2,7 +2,6 @@
 ghost use Rattle.text.specs.Texts.{decimal};
 ghost use Rattle.origin.specs.Inner.Pens.{Standing, Drawn};
 
-use text::number::width;
 use text::write::{put_bytes, put_number};
 
 #[derive(Clone, Copy)]
@@ -20,26 +19,20 @@ pub fn put(out: &mut [u8], pen: Pen, bytes: &[u8]) -> Pen
     requires { Standing pen out.old }
     ensures { Drawn bytes.now out.old pen out.new result }
 {
-    let at = pen.at;
     if !pen.fits {
         return pen;
     }
-    if out.len() - at < bytes.len() {
-        return Pen {
-            at,
-            fits: false,
-            writing: pen.writing,
-        };
+    if out.len() - pen.at < bytes.len() {
+        return Pen { fits: false, ..pen };
     }
     let next = Pen {
-        at: at + bytes.len(),
-        fits: true,
-        writing: pen.writing,
+        at: pen.at + bytes.len(),
+        ..pen
     };
     if !pen.writing {
         return next;
     }
-    put_bytes(out, at, bytes);
+    put_bytes(out, pen.at, bytes);
     next
 }
 

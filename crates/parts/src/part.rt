@@ -38,7 +38,7 @@ fn write_clause(nodes: &Nodes, out: &mut &mut [u8], at: usize, way: Way) -> usiz
 {
     let helper = nodes.helpers[way.node];
     let first = put_helper(out, at, way.sign, false, helper);
-    let second = write_own(nodes, out, first, way);
+    let second = write_own(nodes, out, first, way.node, way.sign, way.k);
     let third = put_helper(out, second, !way.sign, true, helper);
     put(out, third, 0);
     third + 4

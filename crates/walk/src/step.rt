@@ -220,11 +220,11 @@ pub fn unpack(code: u64) -> Step
 
 // The same step as one number, which is handed back in a register. A writer that calls itself unpacks it, and keeps no step in
 // its frame.
-pub fn lead(nodes: &Nodes, way: Way) -> u64
-    requires leadable { Leadable nodes.now.table.now way.node }
-    requires k_bound { way.k < 65_536 }
-    ensures { Led (lead_step (node_at nodes.now.table.now way.node) nodes.now.columns.now.clauses nodes.now.columns.now.literals
-        nodes.now.helpers.now way.node way.sign way.k) result }
+pub fn lead(nodes: &Nodes, node: usize, sign: bool, k: usize) -> u64
+    requires leadable { Leadable nodes.now.table.now node }
+    requires k_bound { k < 65_536 }
+    ensures { Led (lead_step (node_at nodes.now.table.now node) nodes.now.columns.now.clauses nodes.now.columns.now.literals
+        nodes.now.helpers.now node sign k) result }
 {
-    pack(lead_step(nodes, way))
+    pack(lead_step(nodes, Way { node, sign, k }))
 }

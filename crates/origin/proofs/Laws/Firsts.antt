@@ -1,76 +1,57 @@
 -- From steps to the first literal of a clause: it is found, or a later step finds it, or no way waits.
 -- Assumes nothing.
 use mathlib.Core.Path.{◌≡◌, sym, ap, ◌∙◌, subst⁻¹}
-use mathlib.Core.Bool.{Bool, true, false, cond}
-use mathlib.Core.List.{List, [], ◌∷◌, ◌++◌, append-nil}
-use Prim.Native.Nat.{ℕ, zero, suc, ◌≤◌}
+use mathlib.Core.List.{◌++◌, append-nil}
+use Prim.Native.Nat.{ℕ, ◌+◌, ◌<◌}
 use native.Mathlib.Omega.{arith}
-use lib.ListN.{length}
-use Rattle.formula.specs.Tables.{nodes_of}
+use Rattle.std.specs.Prelude.{Option, Some, None}
 use Rattle.clausal.specs.Clauses.{Clause}
-use Rattle.walk.specs.Inner.Lists.{names_in}
-use Rattle.walk.specs.Inner.Steps.{way}
-use Rattle.origin.specs.Inner.Ways.{none_at, waiting_clause, Waiting, Startable, Openable, Opened, FirstOf}
-use Rattle.origin.specs.declared.literal.Found.{Found}
+use Rattle.formula.specs.Tables.{nodes_of}
+use Rattle.walk.specs.Inner.Lists.{names_in, seen_clause}
+use Rattle.walk.specs.declared.nodes.Nodes.{Nodes}
+use Rattle.walk.specs.declared.step.Way.{Way}
+use Rattle.origin.specs.Inner.Ways.{blank, Popped, waiting_clause, waiting_of, weight, load_of, Waiting}
+use Rattle.origin.specs.Inner.Ways.{Opened, Parts, FirstOf}
+use Rattle.origin.specs.declared.literal.Literal.{Literal}
+use Rattle.origin.specs.declared.literal.Ways.{Ways}
+use Rattle.origin.proofs.Laws.Ways.{clause_popped, load_popped}
 
-module _ (t : List ℕ) (cs ls : List (List ℕ)) (helpers : List ℕ) where
-  -- the literals of the ways that wait
-  abbrev rest : List ℕ → ℕ → Clause
-  rest ways d = waiting_clause (names_in helpers) (nodes_of t) ways d
+module _ (x : Nodes) where
+  -- a literal was found, in a clause that is equal to the one that is walked
+  pub first_found : (b c : Clause) (most : ℕ) (l : Literal) (w : Ways) → b ≡ c → Opened x c most (Some l) w → FirstOf x b (Some l) w
+  first_found b c most l w e o = record { waiting = o.waiting; clause = (o.clause.0, e ∙ o.clause.1) }
 
-  -- from steps to the first literal
-  module _ (c : Clause) (most : ℕ) (f : Found) (ways : List ℕ) (o : Opened t cs ls helpers c most f ways) where
-    abbrev later : Clause
-    later = rest ways f.depth
+  -- nothing waits behind it
+  module _ (c : Clause) (ways : Ways) (e : ways ≡ blank) where
+    pub start-alone : c ≡ c ++ waiting_of x ways
+    unfolding waiting_clause
+    start-alone = subst⁻¹ (λ (v : Ways). c ≡ c ++ waiting_of x v) e (sym (append-nil c))
 
-    abbrev whole : Clause
-    whole = record { plain = f.plain; variable = f.variable } ∷ later
+  pub first_as : (b c : Clause) (f : Option Literal) (w : Ways) → b ≡ c → FirstOf x c f w → FirstOf x b f w
+  first_as b c f w e o = record { waiting = o.waiting; clause = begun f o.clause }
+    where
+      begun : (f : Option Literal) → Parts c f (waiting_of x w) → Parts b f (waiting_of x w)
+      begun None g = e ∙ g
+      begun (Some l) g = (g.0, e ∙ g.1)
 
-    pub first_found : f.is ≡ true → FirstOf t cs ls helpers c f ways
-    first_found e = record {
-      waiting = o.waiting;
-      some = o.some;
-      clause = o.clause ∙ ap (λ (b : Bool). cond b whole later) e ∙ sym (ap (λ (b : Bool). cond b whole []) e);
-    }
+  -- a walk through a clause, which is what waited at first: the last way was taken
+  module _ (c : Clause) (before middle : Ways) (w : Way) (e : c ≡ waiting_of x before) (p : Popped before (Some w) middle) where
+    pub next_found : (l : Literal) (after : Ways)
+        → Opened x (seen_clause x w ++ waiting_of x middle) (weight w.node + load_of middle) (Some l) after → FirstOf x c (Some l) after
+    next_found l after o = first_found c _ _ l after (e ∙ clause_popped w before middle p x) o
 
-    pub first_later : f.is ≡ false → c ≡ later
-    first_later e = o.clause ∙ ap (λ (b : Bool). cond b whole later) e
+    module _ (after : Ways) (o : Opened x (seen_clause x w ++ waiting_of x middle) (weight w.node + load_of middle) None after) where
+      pub next_same : c ≡ waiting_of x after
+      next_same = e ∙ clause_popped w before middle p x ∙ o.clause
 
-  -- the same first literal, of an equal clause
-  pub first_as : (b c : Clause) (f : Found) (ways : List ℕ) → b ≡ c → FirstOf t cs ls helpers c f ways → FirstOf t cs ls helpers b f ways
-  first_as b c f ways e o = record { waiting = o.waiting; some = o.some; clause = e ∙ o.clause }
+      pub next_less : load_of after < load_of before
+      next_less = omega (arith, o.less, load_popped w before middle p)
 
   -- no way waits
-  pub first-none : (c : Clause) (d : ℕ) (f : Found) (ways : List ℕ) → Waiting t cs ls helpers ways d → d ≤ 0 → c ≡ rest ways d
-      → f ≡ none_at 0 → FirstOf t cs ls helpers c f ways
+  pub first-none : (c : Clause) (before after : Ways) → Waiting x before → c ≡ waiting_of x before → Popped before None after
+      → FirstOf x c None after
   unfolding waiting_clause
-  first-none c zero f ways waits h e g = subst⁻¹ (λ (x : Found). FirstOf t cs ls helpers c x ways) g (record {
-    waiting = waits;
-    some = λ z. absurd (let q : ◌≡◌ {A = ℕ} 0 1 = cc in omega arith);
-    clause = e;
-  })
-  first-none c (suc d) f ways waits h e g = absurd (omega arith)
-
-  -- the first step, into a node's own list
-  pub start_openable : (n : ℕ) (sign : Bool) (k : ℕ) (ways : List ℕ) → Startable t cs ls helpers n sign k → length ways ≡ 1_024
-      → Openable t cs ls helpers ways 0 (way n sign k)
-  start_openable n sign k ways s size = record {
-    start = s;
-    waiting = record { writable = s.writable; size = size; most = omega arith; each = λ i h. absurd (omega arith) };
-    room = omega (arith, s.inside, s.writable.right.size.most);
+  first-none c before after waits e p = record {
+    waiting = subst⁻¹ (Waiting x) p.1 waits;
+    clause = e ∙ ap (waiting_clause (names_in x.helpers.now) (nodes_of x.table.now) before.held) p.0;
   }
-
-  module _ (c : Clause) (ways : List ℕ) (most : ℕ) (f : Found) (after : List ℕ)
-      (o : Opened t cs ls helpers (c ++ rest ways 0) most f after) where
-    alone : c ≡ c ++ rest ways 0
-    unfolding waiting_clause
-    alone = sym (append-nil c)
-
-    pub start-found : f.is ≡ true → FirstOf t cs ls helpers c f after
-    start-found e =
-        first_as c (c ++ rest ways 0) f after alone (first_found (c ++ rest ways 0) most f after o e)
-
-    pub start_later : (g : Found) (end : List ℕ) → f.is ≡ false → FirstOf t cs ls helpers (rest after f.depth) g end
-        → FirstOf t cs ls helpers c g end
-    start_later g end e l =
-        first_as c (rest after f.depth) g end (alone ∙ first_later (c ++ rest ways 0) most f after o e) l

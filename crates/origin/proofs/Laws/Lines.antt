@@ -1,44 +1,43 @@
 -- A line put run by run, and lines one behind another.
 -- Assumes nothing.
 use mathlib.Core.Path.{◌≡◌, refl, sym, ap, ◌∙◌, subst, subst⁻¹}
-use mathlib.Core.Bool.{Bool, true, false}
 use mathlib.Core.List.{List, [], ◌∷◌, ◌++◌, map, append_assoc, append-nil}
 use Prim.Native.Nat.{ℕ, zero, suc, ◌+◌, ◌-◌, ◌≤◌, ◌<◌}
 use native.Mathlib.Nat.{zero-add, sub_self}
 use native.Mathlib.Omega.{arith}
 use lib.ListN.{length, get_or}
 use Rattle.laws.specs.Lists.{Every, none, more}
-use Rattle.answer.specs.declared.Answer.TheVariants.{Accepted}
+use Rattle.answer.specs.Answers.{accepted_with}
 use Rattle.formula.specs.Checks.{checked}
 use Rattle.formula.specs.Tables.{node_count, nodes_of}
 use Rattle.marks.specs.Sets.{set_checked}
 use Rattle.formula.specs.declared.node.Node.{Node}
 use Rattle.formula.proofs.Laws.Tables.{length-nodes_of}
 use Rattle.text.specs.Texts.{decimal, joined}
-use Rattle.names.specs.Names.{name_of}
 use Rattle.clausal.specs.Clauses.{Literal, Clause, Renaming, renaming}
 use Rattle.clausal.specs.Clauses as rules
-use Rattle.clausal.specs.Meanings.{Origin, Named}
 use Rattle.clausal.specs.Output.{output_of}
 use Rattle.clausal.specs.Totals.{clause_ceiling}
 use Rattle.clausal.proofs.Names.{output-named, variable_range}
 use Rattle.walk.specs.Inner.Lists.{names_in, own_list, shown_all}
 use Rattle.walk.specs.Inner.Written.{Writable}
+use Rattle.walk.specs.declared.nodes.Nodes.{Nodes}
 use Rattle.convert.proofs.Laws.Written as written
-use Rattle.origin.specs.Inner.Spots.{direction_of, sign_of, spot, count_at, start_at, Inside, Sought, Stood}
+use Rattle.origin.specs.Inner.Spots.{sign_of, spot, start_at, Inside, Sought, Stood}
 use Rattle.origin.specs.declared.part.Direction.TheVariants.{Root, Down, Up}
 use Rattle.origin.specs.declared.part.Direction.{Direction}
+use Rattle.origin.specs.declared.line.Span.{Span}
 use Rattle.origin.specs.declared.part.Spot.{Spot}
-use Rattle.origin.specs.Origins.{Source, direction_word, shown_literal, fields_of, line_text, line_of}
-use Rattle.origin.specs.Inner.Grounds.{Ground, spot_clause, spot_source, spot_line}
-use Rattle.origin.specs.Inner.Lines.{name_count, source_text, tabbed, literals_text, lines_from, Ranged}
-use Rattle.origin.specs.Inner.Lines.{Known, Voiced, Spoken, Spotted, Tellable}
+use Rattle.origin.specs.Origins.{shown_literal, line_of}
+use Rattle.origin.specs.Inner.Grounds.{Ground, spot_clause, spot_line}
+use Rattle.origin.specs.Inner.Lines.{name_count, source_text, literals_text, lines_from, Ranged, Lists, lists_of, named}
+use Rattle.origin.specs.Inner.Lines.{Known, Spoken, Spotted, Tellable}
 use Rattle.origin.specs.Inner.Pens.{Standing, Drawn}
-use Rattle.origin.specs.Inner.Ways.{Startable}
 use Rattle.origin.specs.declared.pen.Pen.{Pen}
+use Rattle.origin.specs.declared.voices.Voices.{Voices}
 use Rattle.origin.proofs.Laws.Pens.{drawn_as, drawn-both}
 use Rattle.origin.proofs.Laws.Sources.{right, some-nodes, start-end, spot-own, spot-clause, spot-line}
-use Rattle.origin.proofs.Laws.Spoken.{spoken_as, spoken_both, spoken_nothing, spoken_standing}
+use Rattle.origin.proofs.Laws.Spoken.{spoken_as, spoken_along, spoken_both, spoken_nothing, spoken_standing}
 
 -- fields behind the last of those before the names
 joined-literals : (f : Literal → List ℕ) (p : List ℕ) (c : Clause) → joined 9 (p ∷ map f c) ≡ p ++ shown_all (λ l. 9 ∷ f l) c
@@ -55,28 +54,17 @@ line_runs name names ns k x =
     joined-literals (shown_literal name) (decimal x.number) (spot_clause names ns x) in
     rw last (simp append_assoc)
 
-module _ (t : List ℕ) (cs ls : List (List ℕ)) (helpers ol hl on hn out : List ℕ) (v : ℕ) (x : Spot) (p : Pen)
-    (w : Spotted t cs ls helpers ol hl on hn v x out p) (k : ℕ) (mid : List ℕ) (q : Pen)
-    (d : Drawn (source_text k (names_in helpers x.node) x) out p mid q) where
-  -- behind the first fields
-  pub names_spotted : Spotted t cs ls helpers ol hl on hn v x mid q
-  names_spotted = record {
-    start = w.start;
-    voiced = record {
-      known = w.voiced.known;
-      ranged = w.voiced.ranged;
-      standing = omega (arith, d.standing, d.size);
-    };
-  }
-
-  pub line_spoken : (om hm last after : List ℕ) (r z : Pen)
-      → Spoken (literals_text (name_of ol hl v) (spot_clause (names_in helpers) (nodes_of t) x)) ol hl v mid q om hm last r
-      → Drawn (10 ∷ []) last r after z
-      → Spoken (spot_line (names_in helpers) (nodes_of t) (name_of ol hl v) k x) ol hl v out p om hm after z
-  line_spoken om hm last after r z s f = record {
-    drawn = drawn_as (line_runs (name_of ol hl v) (names_in helpers) (nodes_of t) k x)
+module _ (x : Nodes) (y : Voices) (out : List ℕ) (z : Spot) (p : Pen) (w : Spotted x y z out p) (k : ℕ) (mid : List ℕ) (q : Pen)
+    (d : Drawn (source_text k (names_in x.helpers.now z.node) z) out p mid q) where
+  pub line_spoken : (y2 : Voices) (last after : List ℕ) (r t : Pen)
+      → Spoken (literals_text (named (lists_of y)) (spot_clause (names_in x.helpers.now) (nodes_of x.table.now) z)) (lists_of y) mid q y2 last r
+      → Drawn (10 ∷ []) last r after t
+      → Spoken (spot_line (names_in x.helpers.now) (nodes_of x.table.now) (named (lists_of y)) k z) (lists_of y) out p y2 after t
+  line_spoken y2 last after r t s f = record {
+    drawn = drawn_as (line_runs (named (lists_of y)) (names_in x.helpers.now) (nodes_of x.table.now) k z)
         (drawn-both _ _ _ _ _ _ _ _ d (drawn-both _ _ _ _ _ _ _ _ s.drawn f));
     known = s.known;
+    lists = s.lists;
   }
 
 -- clause k of a list, whatever k is
@@ -90,128 +78,144 @@ every_map f none = none
 every_map f (more {x = l} q e) = more (f l q) (every_map f e)
 
 -- every variable of a clause of the output has a name
-pub output-ranged : (t : List ℕ) (v : ℕ) (s : List ℕ) → checked t v ≡ Accepted 0 0 → set_checked (nodes_of t) s ≡ Accepted 0 0 → (k : ℕ)
+pub output-ranged : (t : List ℕ) (v : ℕ) (s : List ℕ) → checked t v ≡ accepted_with 0 0 → set_checked (nodes_of t) s ≡ accepted_with 0 0 → (k : ℕ)
     → Ranged (v + rules.renamed_below s (length (nodes_of t))) (get_or (output_of (renaming v s) (nodes_of t)) k [])
 output-ranged t v s table set k =
     every_map (λ l o. variable_range t v (renaming v s) table set (omega arith) l.variable o)
     (every_at (output-named (renaming v s) (nodes_of t)) k)
 
-module _ (t : List ℕ) (v : ℕ) (marks s : List ℕ) (cs ls : List (List ℕ)) (helpers ol hl : List ℕ) (from end : ℕ)
-    (w : Tellable t v marks s cs ls helpers ol hl from end) where
+module _ (x : Nodes) (marks s : List ℕ) (l : Lists) (span : Span) where
+  abbrev from : ℕ
+  from = span.from
+
+  abbrev end : ℕ
+  end = span.end
+
+  abbrev v : ℕ
+  v = l.options
+
+  abbrev t : List ℕ
+  t = x.table.now
+
   abbrev u : Renaming
   u = renaming v s
 
   abbrev ns : List Node
   ns = nodes_of t
 
-  abbrev name : ℕ → List ℕ
-  name = name_of ol hl v
+  abbrev cs : List (List ℕ)
+  cs = x.columns.now.clauses
 
-  abbrev g : Ground t v marks s cs ls helpers
-  g = w.ground
+  module _ (w : Tellable x marks s l span) where
+    abbrev g : Ground x v marks s
+    g = w.ground
 
-  names : names_in helpers ≡ rules.name_of u
-  names = written.names t v marks s cs ls g.prepared helpers g.named
+    names : names_in x.helpers.now ≡ rules.name_of u
+    names = written.names t v marks s x.columns.now g.prepared x.helpers.now g.named
 
-  writable : Writable t cs ls helpers
-  writable = written.writable t v marks s cs ls g.prepared helpers g.named
+    writable : Writable x
+    writable = written.writable x v marks s g.prepared g.named
 
-  -- every variable of the output has a name in the lists
-  ranged : (k : ℕ) → Ranged (v + name_count hl) (get_or (output_of u ns) k [])
-  ranged k =
-      let size = (right t v marks s cs ls helpers g).size in
-      subst (λ (n : ℕ). Ranged (v + n) (get_or (output_of u ns) k [])) (ap (rules.renamed_below s) (sym size) ∙ sym w.count)
-      (output-ranged t v s g.table g.prepared.settled.set k)
+    -- every variable of the output has a name in the lists
+    ranged : (k : ℕ) → Ranged (v + name_count l.helper_list) (get_or (output_of u ns) k [])
+    ranged k =
+        let size = (right x v marks s g).size in
+        subst (λ (n : ℕ). Ranged (v + n) (get_or (output_of u ns) k [])) (ap (rules.renamed_below s) (sym size) ∙ sym w.count)
+        (output-ranged t v s g.table g.prepared.settled.set k)
 
   module _ (start : List ℕ) (pen : Pen) where
     -- the lines up to clause k are put, and clause k stands some clauses behind the beginning of a part
-    pub record Telling (on hn out : List ℕ) (p : Pen) (x : Spot) (k : ℕ) : Type 0 where
-      pub low : from ≤ k
-      pub high : k ≤ end
-      pub inside : Inside s marks cs x.direction x.node
-      pub place : start_at s marks cs x.direction x.node + x.number ≡ k
-      pub spoken : Spoken (lines_from name u ns from (k - from)) ol hl v start pen on hn out p
+    pub record Telling (y : Voices) (out : List ℕ) (p : Pen) (z : Spot) (k : ℕ) : Type 0 where
+      pub tellable : Tellable x marks s l span
+      pub inside : Inside s marks cs z.direction z.node
+      pub place : start_at s marks cs z.direction z.node + z.number ≡ k
+      pub spoken : Spoken (lines_from (named l) u ns from (k - from)) l start pen y out p
 
-    pub telling_start : (on hn : List ℕ) → Known ol hl on hn v → Standing pen start
-        → Telling on hn start pen (spot Root (length s - 1) from) from
+    pub telling_start : (y : Voices) → Tellable x marks s l span → lists_of y ≡ l → Known y → Standing pen start
+        → Telling y start pen (spot Root (length s - 1) from) from
     unfolding lines_from
-    telling_start on hn k z = record {
-      low = omega arith;
-      high = w.order;
+    telling_start y w e k h = record {
+      tellable = w;
       inside = refl;
       place = zero-add from;
-      spoken = spoken_as ol hl v (ap (lines_from name u ns from) (sub_self from)) (spoken_nothing ol hl v on hn start pen k z);
+      spoken = spoken_as l (ap (lines_from (named l) u ns from) (sub_self from)) (spoken_nothing l y start pen e k h);
     }
 
-    module _ (on hn out : List ℕ) (p : Pen) (x : Spot) (k : ℕ) (z : Telling on hn out p x k) where
-      pub telling_sought : k < end → Sought s marks cs x
-      telling_sought h = record {
-        some = some-nodes t v marks s cs ls helpers g;
-        few = omega (arith, (right t v marks s cs ls helpers g).size, length-nodes_of t, g.prepared.settled.marked.size.most);
-        inside = z.inside;
-        below = omega (arith, z.place, w.within, start-end t v marks s cs ls helpers g);
-      }
+    module _ (y : Voices) (out : List ℕ) (p : Pen) (z : Spot) (k : ℕ) (h : Telling y out p z k) where
+      pub telling_sought : k < end → Sought s marks cs z
+      telling_sought below =
+          let w = h.tellable in
+          record {
+            some = some-nodes x v marks s w.ground;
+            few = omega (arith, (right x v marks s w.ground).size, length-nodes_of t, w.ground.prepared.settled.marked.size.most);
+            inside = h.inside;
+            below = omega (arith, h.place, w.within, start-end x v marks s w.ground);
+          }
 
-      pub telling_end : end ≤ k → Spoken (lines_from name u ns from (end - from)) ol hl v start pen on hn out p
-      telling_end h =
-          let e : k ≡ end = omega (arith, z.high) in
-          spoken_as ol hl v (ap (λ (n : ℕ). lines_from name u ns from (n - from)) (sym e)) z.spoken
+      pub telling_end : k ≡ end → Spoken (lines_from (named l) u ns from (end - from)) l start pen y out p
+      telling_end e = spoken_as l (ap (λ (n : ℕ). lines_from (named l) u ns from (n - from)) (sym e)) h.spoken
 
-      module _ (y : Spot) (f : Stood s marks cs x y) (h : k < end) where
-        there : start_at s marks cs y.direction y.node + y.number ≡ k
-        there = f.same ∙ z.place
+      module _ (i : Spot) (f : Stood s marks cs z i) (low : from ≤ k) (below : k < end) where
+        abbrev told : Tellable x marks s l span
+        told = h.tellable
 
-        own : (y.number < length (own_list (rules.name_of u) ns y.node (sign_of y.direction)))
-            × (length (own_list (rules.name_of u) ns y.node (sign_of y.direction)) < clause_ceiling)
-        own = spot-own t v marks s cs ls helpers g k y f.inside f.has there
+        there : start_at s marks cs i.direction i.node + i.number ≡ k
+        there = f.same ∙ h.place
 
-        few : y.node < node_count t
-        few = go y.direction y.node f.inside
+        own : (i.number < length (own_list (rules.name_of u) ns i.node (sign_of i.direction)))
+            × (length (own_list (rules.name_of u) ns i.node (sign_of i.direction)) < clause_ceiling)
+        own = spot-own x v marks s told.ground k i f.inside f.has there
+
+        few : i.node < node_count t
+        few = go i.direction i.node f.inside
           where
             size : length s ≡ node_count t
-            size = (right t v marks s cs ls helpers g).size ∙ length-nodes_of t
+            size = (right x v marks s told.ground).size ∙ length-nodes_of t
 
-            go : (d : Direction) (i : ℕ) → Inside s marks cs d i → i < node_count t
-            go Root i e = omega (arith, size, some-nodes t v marks s cs ls helpers g)
-            go Down i e = omega (arith, size)
-            go Up i e = omega (arith, size)
+            go : (d : Direction) (j : ℕ) → Inside s marks cs d j → j < node_count t
+            go Root j e = omega (arith, size, some-nodes x v marks s told.ground)
+            go Down j e = omega (arith, size)
+            go Up j e = omega (arith, size)
 
-        pub telling_spotted : Spotted t cs ls helpers ol hl on hn v y out p
+        pub telling_spotted : Spotted x y i out p
         telling_spotted = record {
           start = record {
-            writable = writable;
+            writable = writable told;
             inside = few;
-            has = subst⁻¹ (λ (m : ℕ → ℕ). y.number < length (own_list m ns y.node (sign_of y.direction))) names own.0;
-            short = subst⁻¹ (λ (m : ℕ → ℕ). length (own_list m ns y.node (sign_of y.direction)) < clause_ceiling) names own.1;
+            has = subst⁻¹ (λ (m : ℕ → ℕ). i.number < length (own_list m ns i.node (sign_of i.direction))) (names told) own.0;
+            short = subst⁻¹ (λ (m : ℕ → ℕ). length (own_list m ns i.node (sign_of i.direction)) < clause_ceiling) (names told) own.1;
           };
           voiced = record {
-            known = z.spoken.known;
-            ranged = subst⁻¹ (λ (m : ℕ → ℕ). Ranged (v + name_count hl) (spot_clause m ns y)) names
-                (subst (Ranged (v + name_count hl)) (spot-clause t v marks s cs ls helpers g k y f.inside f.has there) (ranged k));
-            standing = spoken_standing ol hl v z.spoken;
+            known = h.spoken.known;
+            ranged = subst⁻¹ (λ (m : Lists). Ranged (m.options + name_count m.helper_list) (spot_clause (names_in x.helpers.now) ns i))
+                h.spoken.lists
+                (subst⁻¹ (λ (m : ℕ → ℕ). Ranged (v + name_count l.helper_list) (spot_clause m ns i)) (names told)
+                (subst (Ranged (v + name_count l.helper_list)) (spot-clause x v marks s told.ground k i f.inside f.has there)
+                (ranged told k)));
+            standing = spoken_standing l h.spoken;
           };
         }
 
-        pub telling_few : (k < 65_536) × (y.number + 1 < 65_537)
-        telling_few = (omega (arith, w.within, g.short), omega (arith, there, w.within, g.short))
-
-        pub telling_next : (om hm after : List ℕ) (q : Pen) → Spoken (spot_line (names_in helpers) ns name k y) ol hl v out p om hm after q
-            → Telling om hm after q (spot y.direction y.node (y.number + 1)) (k + 1)
+        pub telling_next : (y2 : Voices) (after : List ℕ) (q : Pen)
+            → Spoken (spot_line (names_in x.helpers.now) ns (named (lists_of y)) k i) (lists_of y) out p y2 after q
+            → Telling y2 after q (spot i.direction i.node (i.number + 1)) (k + 1)
         unfolding lines_from
-        telling_next om hm after q r = record {
-          low = omega (arith, z.low);
-          high = omega arith;
+        telling_next y2 after q r = record {
+          tellable = told;
           inside = f.inside;
           place = omega (arith, there);
-          spoken = spoken_as ol hl v more-lines (spoken_both ol hl v z.spoken (spoken_as ol hl v same r));
+          spoken = spoken_as l more-lines (spoken_both l h.spoken
+              (spoken_as l same
+              (spoken_along l (λ (m : Lists). spot_line (names_in x.helpers.now) ns (named m) k i) y h.spoken.lists r)));
         }
           where
-            same : line_of name u ns k ≡ spot_line (names_in helpers) ns name k y
-            same = sym (ap (λ (m : ℕ → ℕ). spot_line m ns name k y) names
-                ∙ spot-line t v marks s cs ls helpers g k y f.inside f.has there name)
+            same : line_of (named l) u ns k ≡ spot_line (names_in x.helpers.now) ns (named l) k i
+            same = sym (ap (λ (m : ℕ → ℕ). spot_line m ns (named l) k i) (names told)
+                ∙ spot-line x v marks s told.ground k i f.inside f.has there (named l))
 
-            more-lines : lines_from name u ns from (k + 1 - from) ≡ lines_from name u ns from (k - from) ++ line_of name u ns k
+            more-lines : lines_from (named l) u ns from (k + 1 - from) ≡ lines_from (named l) u ns from (k - from) ++ line_of (named l) u ns k
             more-lines =
-                let e : k + 1 - from ≡ suc (k - from) = omega (arith, z.low) in
-                let i : from + (k - from) ≡ k = omega (arith, z.low) in
-                ap (lines_from name u ns from) e ∙ ap (λ (n : ℕ). lines_from name u ns from (k - from) ++ line_of name u ns n) i
+                let e : k + 1 - from ≡ suc (k - from) = omega (arith, low) in
+                let j : from + (k - from) ≡ k = omega (arith, low) in
+                ap (lines_from (named l) u ns from) e
+                ∙ ap (λ (n : ℕ). lines_from (named l) u ns from (k - from) ++ line_of (named l) u ns n) j

@@ -3,12 +3,12 @@
 use mathlib.Core.Path.{◌≡◌, refl, sym, ap, ◌∙◌, subst⁻¹}
 use mathlib.Core.Bool.{Bool, true, false, ◌&&◌}
 use mathlib.Core.List.{List, [], ◌++◌}
-use Prim.Native.Nat.{ℕ, ◌+◌, ◌≤◌, ◌<◌}
+use Prim.Native.Nat.{ℕ, ◌+◌, ◌≤◌}
 use native.Mathlib.Nat.{zero-add}
 use native.Mathlib.Omega.{arith}
 use lib.Dec.{leb}
 use lib.ListN.{length, take, length-append}
-use borrow.Author.Tests.{le-leb, lt-leb, leb-true}
+use borrow.Author.Tests.{le-leb, leb-true}
 use Rattle.laws.specs.Lists.{splice}
 use Rattle.laws.specs.Inner.Stores.{Stored}
 use Rattle.laws.proofs.Choices.{both}
@@ -38,50 +38,6 @@ drawn-out bytes out p s e = record {
   wrote = λ w f. never p.fits f e;
   kept = λ w. refl;
 }
-
-abbrev moved : Pen → ℕ → Bool → Pen
-moved p at fits = record { at = at; fits = fits; writing = p.writing }
-
--- bytes that are more than what is left
-pub drawn-over : (bytes out : List ℕ) (p : Pen) → Standing p out → p.fits ≡ true → length out < p.at + length bytes
-    → Drawn bytes out p out (moved p p.at false)
-drawn-over bytes out p s e h = record {
-  mode = refl;
-  fits = sym (ap (λ (b : Bool). b && leb (p.at + length bytes) (length out)) e ∙ lt-leb (p.at + length bytes) (length out) h);
-  place = λ f. never false f refl;
-  standing = s;
-  size = refl;
-  wrote = λ w f. never false f refl;
-  kept = λ w. refl;
-}
-
--- bytes that fit, and are measured or written
-module _ (bytes out : List ℕ) (p : Pen) (e : p.fits ≡ true) (h : p.at + length bytes ≤ length out) where
-  room : true ≡ (p.fits && leb (p.at + length bytes) (length out))
-  room = sym (ap (λ (b : Bool). b && leb (p.at + length bytes) (length out)) e ∙ le-leb (p.at + length bytes) (length out) h)
-
-  pub drawn-measured : p.writing ≡ false → Drawn bytes out p out (moved p (p.at + length bytes) true)
-  drawn-measured w = record {
-    mode = refl;
-    fits = room;
-    place = λ f. refl;
-    standing = h;
-    size = refl;
-    wrote = λ g f. never p.writing g w;
-    kept = λ g. refl;
-  }
-
-  pub drawn-written : (next : ℕ) (after : List ℕ) → p.writing ≡ true → Stored bytes out p.at next after
-      → Drawn bytes out p after (moved p (p.at + length bytes) true)
-  drawn-written next after w s = record {
-    mode = refl;
-    fits = room;
-    place = λ f. refl;
-    standing = h;
-    size = stored-length h s;
-    wrote = λ g f. s.list;
-    kept = λ g. never p.writing w g;
-  }
 
 -- no byte at all, for a pen that has not left its buffer or has
 pub drawn-nothing : (out : List ℕ) (p : Pen) → Standing p out → Drawn [] out p out p

@@ -1,170 +1,171 @@
 -- The calls for lines: the lists with their notes, both passes, and the order of the refusals.
 -- Assumes nothing.
-use mathlib.Core.Path.{◌≡◌, refl, sym, ap, ◌∙◌, subst, subst⁻¹}
-use mathlib.Core.Bool.{Bool, true, false, cond, ◌&&◌}
+use mathlib.Core.Path.{◌≡◌, refl, sym, ap, ◌∙◌, subst⁻¹}
+use mathlib.Core.Bool.{Bool, true, false, cond}
 use mathlib.Core.List.{List, [], ◌++◌}
 use Prim.Native.Nat.{ℕ, zero, suc, ◌+◌, ◌-◌, ◌≤◌, ◌<◌}
 use native.Mathlib.Nat.{zero-add, add-zero}
 use native.Mathlib.Omega.{arith}
 use lib.Dec.{ltb, leb}
 use lib.ListN.{length, replicate}
-use borrow.Author.Tests.{lt-ltb, le-ltb, leb-true, leb-false}
+use borrow.Author.Tests.{lt-ltb, le-ltb, ltb-true, leb-true, leb-false}
+use denote.Ref.{Bor}
+use Rattle.std.specs.Prelude.{Option, Some, None, Result, Ok, Err}
 use Rattle.laws.specs.Lists.{splice}
-use Rattle.answer.specs.Answers.{refuses, Wrote, afterwards, stored}
-use Rattle.answer.specs.declared.Answer.{Answer}
-use Rattle.answer.specs.declared.Answer.TheVariants.{Accepted, NoClause, Names, Room}
+use Rattle.answer.specs.Answers.{refuses, Answer, accepted_with, Wrote, afterwards, stored}
+use Rattle.answer.specs.declared.Accepted.{Accepted}
+use Rattle.answer.proofs.Laws.Order.{accepts_of, refused-wrote, accepted-wrote}
+use Rattle.answer.specs.declared.Refusal.{Refusal}
+use Rattle.answer.specs.declared.Refusal.TheVariants.{NoClause, Room}
 use Rattle.formula.specs.Checks.{checked}
 use Rattle.formula.specs.Tables.{nodes_of}
 use Rattle.formula.specs.declared.node.Node.{Node}
 use Rattle.formula.proofs.Laws.Tables.{length-nodes_of}
 use Rattle.formula.proofs.Laws.WellFormed.{checked-accepted}
+use Rattle.marks.specs.Sets.{set_checked}
 use Rattle.text.specs.Texts.{parted}
-use Rattle.names.specs.Names.{newline, right_names, name_of}
+use Rattle.names.specs.Names.{newline, right_names}
 use Rattle.names.specs.Inner.Notes.{Noted, Notable, notes_of}
+use Rattle.names.specs.declared.list.Notes.{Notes}
 use Rattle.names.proofs.Laws.Names.{names-length}
 use Rattle.names.proofs.Laws.Notes.{noted-first}
 use Rattle.clausal.specs.Calls.{ceilings}
 use Rattle.clausal.specs.Clauses.{Renaming, renaming, renamed_below, variables_of}
 use Rattle.clausal.specs.Output.{output_of}
-use Rattle.clausal.specs.Totals.{Size, size_of}
-use Rattle.parts.specs.Inner.Helpers.{helpers_of, Unnamed}
+use Rattle.clausal.specs.Totals.{Size, size_of, clause_ceiling}
+use Rattle.clausal.specs.Totals as totals
 use Rattle.clausal.proofs.Renamed.{below_le}
+use Rattle.totals.specs.declared.rows.Columns.{Columns}
+use Rattle.parts.specs.Inner.Helpers.{helpers_of, Unnamed}
 use Rattle.convert.specs.Inner.Fitted.{Measured}
 use Rattle.convert.proofs.Laws.Checked.{convertible, few-options}
 use Rattle.convert.proofs.Laws.Fitted.{ceilings-shown, sizes-below}
 use Rattle.convert.proofs.Laws.Written as written
-use Rattle.marks.proofs.Laws.Sets.{RightSet}
-use Rattle.origin.specs.Calls.{clause_checked, names_checked, shown_with, counted, origin_under, origins_under}
+use Rattle.walk.specs.declared.nodes.Nodes.{Nodes}
+use Rattle.origin.specs.Calls.{clause_checked, names_checked, shown_with}
 use Rattle.origin.specs.Origins.{line_of, lines_of}
-use Rattle.origin.specs.Inner.Lines.{name_count, lines_from, Known, Spoken, Tellable}
-use Rattle.origin.specs.Inner.Shown.{Writing, Fitted, Listed, lines_between, Showable, shown_under}
+use Rattle.origin.specs.Inner.Lines.{name_count, lines_from, Lists, lists_of, named, unnoted, Known, Spoken, Tellable}
+use Rattle.origin.specs.Inner.Shown.{spanned, lines_between, named_with, Listed, Showable, shown_under}
+use Rattle.origin.specs.declared.line.Span.{Span}
 use Rattle.origin.specs.declared.pen.Pen.{Pen}
+use Rattle.origin.specs.declared.voices.Voices.{Voices}
+use Rattle.origin.proofs.Laws.Sources.{right}
+use Rattle.origin.proofs.Laws.Spoken.{spoken_along}
 
 -- a right list has as many names as were asked
-pub count-names : (n : ℕ) (list : List ℕ) → right_names n list ≡ true → name_count list ≡ n
+count-names : (n : ℕ) (list : List ℕ) → right_names n list ≡ true → name_count list ≡ n
 count-names n list h = omega (arith, names-length n (parted newline list) h)
 
 -- the notes of a right list
-first-noted : (list : List ℕ) (n : ℕ) (notes : List ℕ) → right_names n list ≡ true → n ≤ 32_000 → notes ≡ notes_of list n
+first-noted : (list : List ℕ) (n : ℕ) (notes : Notes) → right_names n list ≡ true → n ≤ 32_000 → notes ≡ notes_of list n
     → Noted list n notes
 first-noted list n notes r f e =
-    subst⁻¹ (Noted list n) e (noted-first (record { right = r; few = f; zeros = refl }))
-
-pub known-first : (ol hl on hn : List ℕ) (v n : ℕ) → right_names v ol ≡ true → right_names n hl ≡ true → v ≤ 32_000 → n ≤ 32_000
-    → on ≡ notes_of ol v → hn ≡ notes_of hl n → Known ol hl on hn v
-known-first ol hl on hn v n r q f g e d = record {
-  options = first-noted ol v on r f e;
-  helpers = subst⁻¹ (λ (m : ℕ). Noted hl m hn) (count-names n hl q) (first-noted hl n hn q g d);
-}
+    subst⁻¹ (Noted list n) e (noted-first (record { right = r; few = f; none = refl }))
 
 -- lines are measured, and then written
-module _ (bytes ol hl : List ℕ) (v : ℕ) (out on hn mid : List ℕ) (q : Pen)
-    (m : Spoken bytes ol hl v out (record { at = 0; fits = true; writing = false }) on hn mid q) where
-  room : q.fits ≡ leb (length bytes) (length out)
-  room = m.drawn.fits ∙ ap (λ (n : ℕ). leb n (length out)) (zero-add (length bytes))
+module _ (x : Nodes) (s : List ℕ) (span : Span) (y : Voices) (out mid : List ℕ) (y1 : Voices) (q : Pen) where
+  abbrev bytes : Lists → List ℕ
+  bytes l = lines_between l (renaming l.options s) (nodes_of x.table.now) span
 
-  pub lines-over : q.fits ≡ false → Fitted bytes out false mid
-  lines-over e = record { room = sym e ∙ room; list = m.drawn.kept refl }
+  abbrev text : List ℕ
+  text = bytes (lists_of y)
 
-  pub lines-written : q.fits ≡ true → (om hm after : List ℕ) (r : Pen)
-      → Spoken bytes ol hl v mid (record { at = 0; fits = true; writing = true }) om hm after r → Fitted bytes out true after
-  lines-written e om hm after r w =
-      let kept = m.drawn.kept refl in
-      let fits = w.drawn.fits ∙ (λ i. leb (zero-add (length bytes) i) (length (kept i))) ∙ sym room ∙ e in
-      record {
-        room = sym e ∙ room;
-        list = w.drawn.wrote refl fits ∙ ap (λ (l : List ℕ). splice l 0 bytes) kept;
-      }
+  module _ (m : Spoken text (lists_of y) out (record { at = 0; fits = true; writing = false }) y1 mid q) where
+    room : q.fits ≡ leb (length text) (length out)
+    room = m.drawn.fits ∙ ap (λ (n : ℕ). leb n (length out)) (zero-add (length text))
 
--- what was prepared, with its helpers and its names
-module _ (t : List ℕ) (v : ℕ) (marks s : List ℕ) (cs ls : List (List ℕ)) (total from end : ℕ)
-    (w : Listed t v marks s cs ls total from end) where
-  abbrev u : Renaming
-  u = renaming v s
+    kept : mid ≡ out
+    kept = m.drawn.kept refl
 
-  abbrev ns : List Node
-  ns = nodes_of t
+    abbrev either : Bool → Wrote (List ℕ)
+    either b = cond b (record { answer = Err Room; output = out }) (record { answer = accepted_with 0 0; output = splice out 0 text })
 
-  pub listed-unnamed : Unnamed v s (replicate 1_024 0)
-  listed-unnamed = written.unnamed t v marks s cs ls w.prepared
+    pub lines-over : q.fits ≡ false → record { answer = Err Room; output = mid } ≡ stored (accepted_with 0 0) text out
+    lines-over e =
+        let over = lt-ltb (length out) (length text) (leb-false (length text) (length out) (sym room ∙ e)) in
+        ap (λ (l : List ℕ). record { answer = Err Room; output = l }) kept ∙ sym (ap either over)
 
-  size : length s ≡ length ns
-  size = (written.right t v marks s cs ls w.prepared).size
+    -- the lists stay the same
+    pub again : (marks : List ℕ) → Tellable x marks s (lists_of y) span → Tellable x marks s (lists_of y1) span
+    again marks t = subst⁻¹ (λ (l : Lists). Tellable x marks s l span) m.lists t
 
-  module _ (last : ℕ) (e : last ≡ variables_of u (length s)) where
-    -- as many names as there are helpers
-    pub count_is : last - v ≡ renamed_below s (length ns)
-    count_is = omega (arith, ap (renamed_below s) size)
+    pub lines-written : q.fits ≡ true → (y2 : Voices) (after : List ℕ) (r : Pen)
+        → Spoken (bytes (lists_of y1)) (lists_of y1) mid (record { at = 0; fits = true; writing = true }) y2 after r
+        → record { answer = accepted_with 0 0; output = after } ≡ stored (accepted_with 0 0) text out
+    lines-written e y2 after r f =
+        let w = spoken_along (lists_of y) bytes y1 m.lists f in
+        let fits = w.drawn.fits ∙ (λ i. leb (zero-add (length text) i) (length (kept i))) ∙ sym room ∙ e in
+        let fit = le-ltb (length out) (length text) (leb-true (length text) (length out) (sym room ∙ e)) in
+        let put = w.drawn.wrote refl fits ∙ ap (λ (l : List ℕ). splice l 0 text) kept in
+        ap (λ (l : List ℕ). record { answer = accepted_with 0 0; output = l }) put ∙ sym (ap either fit)
 
-    pub last_above : v ≤ last
-    last_above = omega arith
+-- what was prepared, and lists that are right
+module _ (x : Nodes) (marks s : List ℕ) (y : Voices) (count : ℕ) (span : Span) (w : Listed x marks s y count span) where
+  few-helpers : count ≤ 32_000
+  few-helpers = omega (
+    arith,
+    w.helped,
+    below_le s (length (nodes_of x.table.now)),
+    length-nodes_of x.table.now,
+    w.ground.prepared.settled.marked.size.most,
+  )
 
-    pub reported-last : last ≡ variables_of u (length ns)
-    reported-last = e ∙ ap (variables_of u) size
+  pub helpers-notable : right_names count y.helper_names.now ≡ true → Notable y.helper_names.now count y.helper_notes
+  helpers-notable r = record { right = r; few = few-helpers; none = w.unnoted.helpers }
 
-    pub writing : (helpers ol hl : List ℕ) → helpers ≡ helpers_of u (length s) → right_names v ol ≡ true → right_names (last - v) hl ≡ true
-        → Writing t v marks s cs ls helpers (last - v) ol hl from end
-    writing helpers ol hl h r q = record {
-      tellable = record {
-        ground = record { table = w.table; prepared = w.prepared; named = h; short = omega (arith, w.count, w.short) };
-        count = count-names (last - v) hl q ∙ count_is ∙ ap (renamed_below s) (sym size);
-        order = w.order;
-        within = omega (arith, w.within, w.count);
-      };
-      options = r;
-      helped = q;
-      few = w.prepared.settled.convertible.most;
-      less = omega (arith, count_is, below_le s (length ns), length-nodes_of t, w.prepared.settled.marked.size.most);
+  module _ (o : right_names y.options y.option_names.now ≡ true) (r : right_names count y.helper_names.now ≡ true) where
+    pub listed_tellable : Tellable x marks s (lists_of y) span
+    listed_tellable = record {
+      ground = w.ground;
+      count = count-names count y.helper_names.now r ∙ w.helped
+          ∙ ap (renamed_below s) (sym (right x y.options marks s w.ground).size);
+      order = w.order;
+      within = w.within;
     }
 
--- refusal 16, then 7
-module _ (u : Renaming) (ns : List Node) (ol hl bytes before : List ℕ) where
-  abbrev accepted : Wrote (List ℕ)
-  accepted = stored (Accepted (variables_of u (length ns)) (length (output_of u ns))) bytes before
+    pub listed_known : (on hn : Notes) → on ≡ notes_of y.option_names.now y.options → hn ≡ notes_of y.helper_names.now count
+        → Known (record y { option_notes = on; helper_notes = hn })
+    listed_known on hn e f = record {
+      options = first-noted y.option_names.now y.options on o w.ground.prepared.settled.convertible.most e;
+      helpers = subst⁻¹ (λ (m : ℕ). Noted y.helper_names.now m hn) (count-names count y.helper_names.now r)
+          (first-noted y.helper_names.now count hn r few-helpers f);
+    }
 
-  abbrev named : Bool → Bool → Wrote (List ℕ)
-  named a b = afterwards (cond (a && b) (Accepted 0 0) Names) before accepted
+-- a call that ends with what is stored: the values that are reported may be others
+module _ (n : Answer) (bytes before : List ℕ) (z : Answer) (a : Answer) (output : List ℕ)
+    (e : ◌≡◌ {A = Wrote (List ℕ)} (record { answer = a; output = output }) (afterwards n before (stored (accepted_with 0 0) bytes before))) where
+  abbrev stores : Answer → Bool → Wrote (List ℕ)
+  stores b over = cond over (record { answer = Err Room; output = before }) (record { answer = b; output = splice before 0 bytes })
 
-  abbrev helped : Bool
-  helped = right_names (renamed_below u.set (length ns)) hl
+  abbrev over : Bool
+  over = ltb (length before) (length bytes)
 
-  pub options-wrong : right_names u.taken ol ≡ false → record { answer = Names; output = before } ≡ shown_with u ns ol hl bytes before
-  options-wrong e = sym (ap (λ (a : Bool). named a helped) e)
-
-  pub helpers-wrong : (n : ℕ) → n ≡ renamed_below u.set (length ns) → right_names n hl ≡ false
-      → record { answer = Names; output = before } ≡ shown_with u ns ol hl bytes before
-  helpers-wrong n c e = go (right_names u.taken ol) (ap (λ (m : ℕ). right_names m hl) (sym c) ∙ e)
+  refused_as : (m : Answer) (b : Bool) (r : Refusal) → ◌≡◌ {A = Wrote (List ℕ)} (record { answer = a; output = output })
+      (afterwards m before (stores (accepted_with 0 0) b)) → a ≡ Err r → record { answer = Err r; output = output } ≡ afterwards m before (stores z b)
+  refused_as (Err q) b r f g = ap (λ (c : Answer). record { answer = c; output = output }) (sym g) ∙ f
+  refused_as (Ok k) true r f g = ap (λ (c : Answer). record { answer = c; output = output }) (sym g) ∙ f
+  refused_as (Ok k) false r f g = absurd (clash (sym (ap (λ (v : Wrote (List ℕ)). v.answer) f) ∙ g))
     where
-      go : (a : Bool) → helped ≡ false → record { answer = Names; output = before } ≡ named a helped
-      go true f = sym (ap (named true) f)
-      go false f = refl
+      clash : accepted_with 0 0 ≡ Err r → ⊥
+      clash h = let q = ap refuses h in let t : ◌≡◌ {A = ℕ} 0 1 = cc in omega arith
 
-  module _ (n : ℕ) (c : n ≡ renamed_below u.set (length ns)) (e : right_names u.taken ol ≡ true) (f : right_names n hl ≡ true) where
-    names-right : shown_with u ns ol hl bytes before ≡ accepted
-    names-right = λ i. named (e i) ((ap (λ (m : ℕ). right_names m hl) (sym c) ∙ f) i)
+  accepted-as : (m : Answer) (b : Bool) (k : Accepted) → ◌≡◌ {A = Wrote (List ℕ)} (record { answer = a; output = output })
+      (afterwards m before (stores (accepted_with 0 0) b)) → a ≡ Ok k → record { answer = z; output = output } ≡ afterwards m before (stores z b)
+  accepted-as (Err q) b k f g = absurd (clash (sym (ap (λ (v : Wrote (List ℕ)). v.answer) f) ∙ g))
+    where
+      clash : Err q ≡ Ok k → ⊥
+      clash h = let r = ap refuses h in let t : ◌≡◌ {A = ℕ} 0 1 = cc in omega arith
+  accepted-as (Ok j) true k f g = absurd (clash (sym (ap (λ (v : Wrote (List ℕ)). v.answer) f) ∙ g))
+    where
+      clash : Err Room ≡ Ok k → ⊥
+      clash h = let r = ap refuses h in let t : ◌≡◌ {A = ℕ} 0 1 = cc in omega arith
+  accepted-as (Ok j) false k f g = ap (λ (l : List ℕ). record { answer = z; output = l }) (ap (λ (v : Wrote (List ℕ)). v.output) f)
 
-    pub no_room : (after : List ℕ) (fits : Bool) → Fitted bytes before fits after → fits ≡ false
-        → record { answer = Room; output = after } ≡ shown_with u ns ol hl bytes before
-    no_room after fits w g =
-        let kept : after ≡ before = w.list ∙ ap (λ (b : Bool). cond b (splice before 0 bytes) before) g in
-        let short = leb-false (length bytes) (length before) (sym w.room ∙ g) in
-        ap (λ (l : List ℕ). record { answer = Room; output = l }) kept
-        ∙ sym (ap (λ (b : Bool). cond b (record { answer = Room; output = before })
-        (record { answer = Accepted (variables_of u (length ns)) (length (output_of u ns)); output = splice before 0 bytes }))
-        (lt-ltb (length before) (length bytes) short))
-        ∙ sym names-right
+  pub stored_refused : (r : Refusal) → a ≡ Err r → record { answer = Err r; output = output } ≡ afterwards n before (stored z bytes before)
+  stored_refused r g = refused_as n over r e g
 
-    pub all_shown : (last total : ℕ) (after : List ℕ) (fits : Bool) → last ≡ variables_of u (length ns) → total ≡ length (output_of u ns)
-        → Fitted bytes before fits after → fits ≡ true
-        → record { answer = Accepted last total; output = after } ≡ shown_with u ns ol hl bytes before
-    all_shown last total after fits x y w g =
-        let put : after ≡ splice before 0 bytes = w.list ∙ ap (λ (b : Bool). cond b (splice before 0 bytes) before) g in
-        let room = leb-true (length bytes) (length before) (sym w.room ∙ g) in
-        (λ i. record { answer = Accepted (x i) (y i); output = put i })
-        ∙ sym (ap (λ (b : Bool). cond b (record { answer = Room; output = before })
-        (record { answer = Accepted (variables_of u (length ns)) (length (output_of u ns)); output = splice before 0 bytes }))
-        (le-ltb (length before) (length bytes) room))
-        ∙ sym names-right
+  pub stored_accepted : (k : Accepted) → a ≡ Ok k → record { answer = z; output = output } ≡ afterwards n before (stored z bytes before)
+  stored_accepted k g = accepted-as n over k e g
 
 -- one line, and all lines
 module _ (name : ℕ → List ℕ) (u : Renaming) (ns : List Node) where
@@ -182,63 +183,186 @@ module _ (name : ℕ → List ℕ) (u : Renaming) (ns : List Node) where
   all_lines : (n : ℕ) → lines_from name u ns 0 (n - 0) ≡ lines_of name u ns n
   all_lines n = let e : n - 0 ≡ n = omega arith in ap (lines_from name u ns 0) e ∙ lines_from_lem n
 
+-- what a result says, at each of its cases
+abbrev is-wrong : Result Span Refusal → Bool
+is-wrong (Ok p) = false
+is-wrong (Err r) = true
+
+abbrev as-answer : Result Span Refusal → Answer
+as-answer (Ok p) = accepted_with 0 0
+as-answer (Err r) = Err r
+
+abbrev span-of : Result Span Refusal → Span
+span-of (Ok p) = p
+span-of (Err r) = record { from = 0; end = 0 }
+
+apart : {A : Type 0} (x y : Result Span Refusal) → is-wrong x ≡ false → is-wrong y ≡ true → x ≡ y → A
+apart x y f g h = let q = sym f ∙ ap is-wrong h ∙ g in let t : ◌≡◌ {A = ℕ} 0 1 = cc in absurd (omega arith)
+
 -- the line of one clause, or the lines of all, behind the checks that both have
-module _ (alone : Bool) (u : Renaming) (ns : List Node) (k : ℕ) (ol hl before : List ℕ) where
-  abbrev name : ℕ → List ℕ
-  name = name_of ol hl u.taken
+module _ (l : Lists) (u : Renaming) (ns : List Node) (before : List ℕ) where
+  abbrev shown : List ℕ → Wrote (List ℕ)
+  shown lines = shown_with u ns l.option_list l.helper_list lines before
 
-  abbrev one : Wrote (List ℕ)
-  one = afterwards (clause_checked (length (output_of u ns)) k) before (shown_with u ns ol hl (line_of name u ns k) before)
+  abbrev pub line_or_lines : Option ℕ → Wrote (List ℕ)
+  line_or_lines None = shown (lines_of (named l) u ns (length (output_of u ns)))
+  line_or_lines (Some k) = afterwards (clause_checked (length (output_of u ns)) k) before (shown (line_of (named l) u ns k))
 
-  abbrev all : Wrote (List ℕ)
-  all = shown_with u ns ol hl (lines_of name u ns (length (output_of u ns))) before
+  module _ (total : ℕ) (e : total ≡ length (output_of u ns)) where
+    abbrev here : ℕ → Span
+    here k = record { from = k; end = k + 1 }
 
-  -- the line of clause k, or the lines of all
-  abbrev pub line_or_lines : Wrote (List ℕ)
-  line_or_lines = cond alone one all
+    abbrev choice : Bool → ℕ → Result Span Refusal
+    choice b k = cond b (Ok (here k)) (Err (NoClause k))
 
-  pub shown-counted : counted u ns before (cond alone one all) ≡ shown_under alone u ns k ol hl before
-  shown-counted = go alone
-    where
-      go : (b : Bool) → counted u ns before (cond b one all) ≡ shown_under b u ns k ol hl before
-      go true = refl
-      go false = refl
+    abbrev line : Bool → ℕ → Wrote (List ℕ)
+    line b k = afterwards (cond b (accepted_with 0 0) (Err (NoClause k))) before (shown (line_of (named l) u ns k))
 
-  pub lines-shown : (x : Wrote (List ℕ)) (total : ℕ) → total ≡ length (output_of u ns) → alone ≡ false
-      → x ≡ shown_with u ns ol hl (lines_between ol hl u ns 0 total) before → x ≡ cond alone one all
-  lines-shown x total e f h =
-      h ∙ ap (λ (l : List ℕ). shown_with u ns ol hl l before) (ap (lines_between ol hl u ns 0) e ∙ all_lines name u ns
-      (length (output_of u ns)))
-      ∙ sym (ap (λ (b : Bool). cond b one all) f)
+    counted-line : (k : ℕ) → line (ltb k total) k ≡ line_or_lines (Some k)
+    counted-line k = ap (λ (n : ℕ). line (ltb k n) k) e
 
-  module _ (total : ℕ) (e : total ≡ length (output_of u ns)) (f : alone ≡ true) where
-    pub clause-wrong : total ≤ k → record { answer = NoClause k; output = before } ≡ cond alone one all
-    clause-wrong h =
-        sym (ap (λ (b : Bool). afterwards (cond b (Accepted 0 0) (NoClause k)) before (shown_with u ns ol hl (line_of name u ns k) before))
-        (le-ltb k (length (output_of u ns)) (omega arith)))
-        ∙ sym (ap (λ (b : Bool). cond b one all) f)
+    -- refusal 15
+    pub span-refused : (clause : Option ℕ) (r : Refusal) → spanned clause total ≡ Err r
+        → record { answer = Err r; output = before } ≡ line_or_lines clause
+    span-refused None r f = apart _ (Err r) refl refl f
+    span-refused (Some k) r f = go (ltb k total) f ∙ counted-line k
+      where
+        go : (b : Bool) → choice b k ≡ Err r → record { answer = Err r; output = before } ≡ line b k
+        go true g = apart _ (Err r) refl refl g
+        go false g = sym (ap (λ (a : Result Span Refusal). record { answer = as-answer a; output = before }) g)
 
-    pub line-shown : (x : Wrote (List ℕ)) → k < total → x ≡ shown_with u ns ol hl (lines_between ol hl u ns k (k + 1)) before
-        → x ≡ cond alone one all
-    line-shown x h g =
-        g ∙ ap (λ (l : List ℕ). shown_with u ns ol hl l before) (one_line name u ns k)
-        ∙ sym (ap (λ (b : Bool). afterwards (cond b (Accepted 0 0) (NoClause k)) before (shown_with u ns ol hl (line_of name u ns k) before))
-        (lt-ltb k (length (output_of u ns)) (omega arith)))
-        ∙ sym (ap (λ (b : Bool). cond b one all) f)
+    -- the lines of the span are those that are told
+    pub span-shown : (clause : Option ℕ) (p : Span) → spanned clause total ≡ Ok p → shown (lines_between l u ns p) ≡ line_or_lines clause
+    span-shown None p f =
+        ap shown (ap (λ (a : Result Span Refusal). lines_between l u ns (span-of a)) (sym f)
+        ∙ ap (λ (n : ℕ). lines_between l u ns (record { from = 0; end = n })) e
+        ∙ all_lines (named l) u ns (length (output_of u ns)))
+    span-shown (Some k) p f = go (ltb k total) f ∙ counted-line k
+      where
+        go : (b : Bool) → choice b k ≡ Ok p → shown (lines_between l u ns p) ≡ line b k
+        go true g =
+            ap shown (ap (λ (a : Result Span Refusal). lines_between l u ns (span-of a)) (sym g) ∙ one_line (named l) u ns k)
+        go false g = apart (Ok p) _ refl refl (sym g)
 
--- the totals decide as the output does, and count its clauses
-module _ (t : List ℕ) (v : ℕ) (marks s : List ℕ) (cs ls : List (List ℕ)) (sum : Size) (m : Measured t v marks s cs ls sum) where
-  pub ceilings-are : ceilings sum ≡ ceilings (size_of (output_of (renaming v s) (nodes_of t)))
-  ceilings-are =
-      ap ceilings (written.sum_is t v marks s cs ls m.prepared sum m.whole [])
-      ∙ ceilings-shown (size_of (output_of (renaming v s) (nodes_of t)))
+    -- and it lies in the output
+    pub span-inside : (clause : Option ℕ) (p : Span) → spanned clause total ≡ Ok p
+        → (p.from ≤ p.end) × (p.end ≤ length (output_of u ns))
+    span-inside None p f =
+        let from = ap (λ (a : Result Span Refusal). (span-of a).from) f in
+        let end = ap (λ (a : Result Span Refusal). (span-of a).end) f in
+        (omega arith, omega (arith, e))
+    span-inside (Some k) p f = go (ltb k total) refl f
+      where
+        go : (b : Bool) → ltb k total ≡ b → choice b k ≡ Ok p → (p.from ≤ p.end) × (p.end ≤ length (output_of u ns))
+        go true h g =
+            let from = ap (λ (a : Result Span Refusal). (span-of a).from) g in
+            let end = ap (λ (a : Result Span Refusal). (span-of a).end) g in
+            let low = ltb-true k total h in
+            (omega arith, omega (arith, e))
+        go false h g = apart (Ok p) _ refl refl (sym g)
 
-  module _ (ok : refuses (ceilings (size_of (output_of (renaming v s) (nodes_of t)))) ≡ false) where
-    pub total-is : sum.clauses ≡ length (output_of (renaming v s) (nodes_of t))
-    total-is = ap (λ (x : Size). x.clauses)
-        (written.sum_is t v marks s cs ls m.prepared sum m.whole []
-        ∙ (sizes-below (size_of (output_of (renaming v s) (nodes_of t))) ok).2)
+-- a formula that was prepared: what is answered behind the check of its set
+module _ (t : List ℕ) (l : Lists) (marks s : List ℕ) (columns : Columns) (sum : Size) (m : Measured t l.options marks s columns sum)
+    (before : List ℕ) (clause : Option ℕ) where
+  abbrev v : ℕ
+  v = l.options
 
--- a table that was checked
-pub showable : (t : List ℕ) (v : ℕ) → refuses (checked t v) ≡ false → Showable t v
-showable t v ok = record { table = checked-accepted t v ok; convertible = convertible t v ok v (few-options t v ok) }
+  abbrev u : Renaming
+  u = renaming v s
+
+  abbrev ns : List Node
+  ns = nodes_of t
+
+  abbrev told : Wrote (List ℕ)
+  told = line_or_lines l u ns before clause
+
+  abbrev output : Size
+  output = size_of (output_of u ns)
+
+  -- the totals decide as the output does
+  whole-is : sum ≡ totals.shown output
+  whole-is = written.sum_is t v marks s columns m.prepared sum m.whole []
+
+  counted-told : (b : Answer) → b ≡ accepted_with 0 0 → (c : Option ℕ)
+      → afterwards b before (afterwards (ceilings output) before (line_or_lines l u ns before c))
+      ≡ afterwards (ceilings output) before (line_or_lines l u ns before c)
+  counted-told b e c = ap (λ (a : Answer). afterwards a before (afterwards (ceilings output) before (line_or_lines l u ns before c))) e
+
+  under : (c : Option ℕ) → afterwards (ceilings output) before (line_or_lines l u ns before c) ≡ shown_under c l u ns before
+  under None = sym (counted-told (set_checked ns s) m.prepared.settled.set None)
+  under (Some k) = sym (counted-told (set_checked ns s) m.prepared.settled.set (Some k))
+
+  module _ (a : Answer) (e : a ≡ ceilings sum) where
+    decides : a ≡ ceilings output
+    decides = e ∙ ap ceilings whole-is ∙ ceilings-shown output
+
+    pub below-refused : (r : Refusal) → a ≡ Err r → record { answer = Err r; output = before } ≡ shown_under clause l u ns before
+    below-refused r g = refused-wrote a (ceilings output) decides r before told g ∙ under clause
+
+    module _ (k : Accepted) (g : a ≡ Ok k) where
+      ok : refuses (ceilings output) ≡ false
+      ok = accepts_of a (ceilings output) decides k g
+
+      behind : told ≡ shown_under clause l u ns before
+      behind = accepted-wrote a (ceilings output) decides k before told told g refl ∙ under clause
+
+      pub total-short : length (output_of u ns) < clause_ceiling
+      total-short = (sizes-below output ok).0
+
+      module _ (total : ℕ) (f : total ≡ sum.clauses) where
+        pub total-is : total ≡ length (output_of u ns)
+        total-is = f ∙ ap (λ (x : Size). x.clauses) (whole-is ∙ (sizes-below output ok).2)
+
+        pub told-refused : (r : Refusal) → spanned clause total ≡ Err r
+            → record { answer = Err r; output = before } ≡ shown_under clause l u ns before
+        told-refused r h = span-refused l u ns before total total-is clause r h ∙ behind
+
+        module _ (p : Span) (h : spanned clause total ≡ Ok p) (b : Answer) (after : List ℕ)
+            (q : ◌≡◌ {A = Wrote (List ℕ)} (record { answer = b; output = after }) (named_with l u ns (lines_between l u ns p) before)) where
+          abbrev values : Answer
+          values = accepted_with (variables_of u (length ns)) (length (output_of u ns))
+
+          lines : shown_with u ns l.option_list l.helper_list (lines_between l u ns p) before ≡ shown_under clause l u ns before
+          lines = span-shown l u ns before total total-is clause p h ∙ behind
+
+          pub names-refused : (r : Refusal) → b ≡ Err r → record { answer = Err r; output = after } ≡ shown_under clause l u ns before
+          names-refused r j =
+              stored_refused (names_checked u ns l.option_list l.helper_list) (lines_between l u ns p) before values b after q r j ∙ lines
+
+          pub names-accepted : (last : ℕ) → last ≡ variables_of u (length s) → (x : Accepted) → b ≡ Ok x
+              → record { answer = accepted_with last total; output = after } ≡ shown_under clause l u ns before
+          names-accepted last w x j =
+              let variables = w ∙ ap (variables_of u) (written.right t v marks s columns m.prepared).size in
+              (λ i. record { answer = accepted_with (variables i) (total-is i); output = after })
+              ∙ stored_accepted (names_checked u ns l.option_list l.helper_list) (lines_between l u ns p) before values b after q x j
+              ∙ lines
+
+  pub listed-unnamed : Unnamed v s (replicate 1_024 0)
+  listed-unnamed = written.unnamed t v marks s columns m.prepared
+
+-- the same of nodes that are lent, with their helpers and lists
+module _ (x : Nodes) (y : Voices) (marks s : List ℕ) (sum : Size) (m : Measured x.table.now y.options marks s x.columns.now sum)
+    (w : Showable x.table.now y) (last : ℕ) (e : last ≡ variables_of (renaming y.options s) (length s))
+    (h : x.helpers.now ≡ helpers_of (renaming y.options s) (length s)) where
+  pub listed : (clause : Option ℕ) (total : ℕ) → total ≡ length (output_of (renaming y.options s) (nodes_of x.table.now))
+      → length (output_of (renaming y.options s) (nodes_of x.table.now)) < clause_ceiling
+      → (p : Span) → spanned clause total ≡ Ok p → Listed x marks s y (last - y.options) p
+  listed clause total f short p g =
+      let inside = span-inside (lists_of y) (renaming y.options s) (nodes_of x.table.now) [] total f clause p g in
+      let size = (written.right x.table.now y.options marks s x.columns.now m.prepared).size in
+      record {
+        ground = record { table = w.table; prepared = m.prepared; named = h; short = short };
+        helped = omega (arith, ap (renamed_below s) size);
+        order = inside.0;
+        within = inside.1;
+        unnoted = w.unnoted;
+      }
+
+-- a table that was checked, and lists of which nothing is noted
+pub showable : (t : List ℕ) (v : ℕ) → refuses (checked t v) ≡ false → (options helpers : Bor (List ℕ)) (y : Voices)
+    → y ≡ unnoted v options helpers → Showable t y
+showable t v ok options helpers y e = subst⁻¹ (Showable t) e (record {
+  table = checked-accepted t v ok;
+  convertible = convertible t v ok v (few-options t v ok);
+  unnoted = record { options = refl; helpers = refl };
+})

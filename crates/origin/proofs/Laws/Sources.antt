@@ -19,11 +19,11 @@ use Rattle.marks.proofs.Laws.Held.{held_at-held}
 use Rattle.marks.proofs.Laws.Sets.{RightSet}
 use Rattle.clausal.specs.Clauses.{clauses, Clause, Renaming, renaming, name_of}
 use Rattle.clausal.specs.Output.{Part, root_part, down_part, up_part, definition, definitions, parts_of, output_of}
-use Rattle.clausal.specs.Places.{Place, place_in, contents_of, counts_of, content_in, Stands}
+use Rattle.clausal.specs.Places.{Place, contents_of, Stands}
 use Rattle.clausal.specs.Totals.{clause_ceiling}
 use Rattle.clausal.proofs.Helpers.{name-renamed, name-plain}
 use Rattle.clausal.proofs.Places.{output_contents, stands_split, stands-only, clause-at}
-use Rattle.walk.specs.Inner.Lists.{signed, pair_in, names_in, own_list}
+use Rattle.walk.specs.Inner.Lists.{signed, pair_in, own_list}
 use Rattle.walk.proofs.Laws.Counts.{own-count}
 use Rattle.parts.specs.Inner.Parts.{around, part_of}
 use Rattle.parts.proofs.Laws.Output.{contents_append, root-written, down-written, up-written, root-plain}
@@ -32,7 +32,8 @@ use Rattle.origin.specs.Inner.Spots.{direction_of, sign_of, half_count, count_at
 use Rattle.origin.specs.declared.part.Direction.{Direction}
 use Rattle.origin.specs.declared.part.Direction.TheVariants.{Root, Down, Up}
 use Rattle.origin.specs.declared.part.Spot.{Spot}
-use Rattle.origin.specs.Origins.{Source, part_in, source_at, source_of, line_of, fields_of, line_text}
+use Rattle.origin.specs.Origins.{part_in, source_at, source_of, line_of, fields_of, line_text}
+use Rattle.walk.specs.declared.nodes.Nodes.{Nodes}
 use Rattle.origin.specs.Inner.Grounds.{Ground, spot_clause, spot_source, spot_line}
 
 -- a clause of a list whose clauses were changed
@@ -45,8 +46,13 @@ get_d_mapped f (c ∷ cs) (suc m) h = get_d_mapped f cs m (omega arith)
 abbrev half_parts : Bool → Bool → Part (List Clause) → List (Part (List Clause))
 half_parts renames has p = cond renames (cond has (p ∷ []) []) []
 
-module _ (t : List ℕ) (v : ℕ) (marks s : List ℕ) (cs ls : List (List ℕ)) (helpers : List ℕ)
-    (g : Ground t v marks s cs ls helpers) where
+module _ (y : Nodes) (v : ℕ) (marks s : List ℕ) (g : Ground y v marks s) where
+  abbrev t : List ℕ
+  t = y.table.now
+
+  abbrev cs : List (List ℕ)
+  cs = y.columns.now.clauses
+
   abbrev u : Renaming
   u = renaming v s
 
@@ -60,7 +66,7 @@ module _ (t : List ℕ) (v : ℕ) (marks s : List ℕ) (cs ls : List (List ℕ))
   parts = parts_of clauses u ns
 
   pub right : RightSet ns s
-  right = written.right t v marks s cs ls g.prepared
+  right = written.right t v marks s y.columns.now g.prepared
 
   pub some-nodes : 0 < length s
   some-nodes = omega (arith, right.size, length-nodes_of t, g.prepared.settled.marked.size.some)
@@ -177,9 +183,9 @@ module _ (t : List ℕ) (v : ℕ) (marks s : List ℕ) (cs ls : List (List ℕ))
   own_is : (i : ℕ) (sign : Bool) → length (own_list name ns i sign) < clause_ceiling → signed sign (pair_in cs i)
       ≡ length (own_list name ns i sign)
   own_is i sign h =
-      let rows = (written.writable t v marks s cs ls g.prepared helpers g.named).rows in
-      let names = written.names t v marks s cs ls g.prepared helpers g.named in
-      let e = own-count ns cs ls helpers rows i sign in
+      let rows = (written.writable y v marks s g.prepared g.named).rows in
+      let names = written.names t v marks s y.columns.now g.prepared y.helpers.now g.named in
+      let e = own-count ns cs y.columns.now.literals y.helpers.now rows i sign in
       let f = ap (λ (x : ℕ → ℕ). length (own_list x ns i sign)) names in
       omega arith
 

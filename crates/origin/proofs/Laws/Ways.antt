@@ -1,23 +1,26 @@
 -- Ways as numbers, what they weigh, and the ways of an array after one more was added.
 -- Assumes nothing.
 use mathlib.Core.Path.{◌≡◌, refl, sym, ap, ◌∙◌, subst, subst⁻¹}
-use mathlib.Core.Bool.{Bool, true, false, cond}
+use mathlib.Core.Bool.{Bool, true, false}
 use mathlib.Core.List.{List, ◌++◌}
-use Prim.Native.Nat.{ℕ, zero, suc, ◌+◌, ◌*◌, ◌/◌, ◌%◌, ◌<◌, ◌≤◌}
+use Prim.Native.Nat.{ℕ, zero, suc, ◌+◌, ◌*◌, ◌<◌, ◌≤◌}
 use native.Mathlib.Numerals.{add-one}
 use native.Mathlib.Omega.{arith}
 use lib.Dec.{ltb}
-use lib.ListN.{length, get_or, set, length-set}
+use lib.ListN.{length, get_or, length-set}
 use lib.Seq.{get_or-set_same, get_or-set_other}
-use borrow.Author.Tests.{ltb-true, ltb-false, eq-eqb, ne_eqb}
+use borrow.Author.Tests.{ltb-true, ltb-false}
 use Rattle.formula.specs.Tables.{most_nodes, nodes_of}
 use Rattle.formula.specs.declared.node.Node.{Node}
-use Rattle.walk.specs.Inner.Lists.{names_in}
-use Rattle.walk.specs.Inner.Steps.{way, way_clause}
+use Rattle.std.specs.Prelude.{Some}
+use Rattle.walk.specs.Inner.Lists.{names_in, seen_clause}
+use Rattle.walk.specs.Inner.Steps.{way_clause}
 use Rattle.walk.specs.declared.step.Way.{Way}
 use Rattle.walk.specs.Inner.Packed.{packed, way_of}
 use Rattle.walk.proofs.Laws.Packed.{way-packed}
-use Rattle.origin.specs.Inner.Ways.{Pushed, waiting_clause, weight, load, WayRight, Waiting}
+use Rattle.walk.specs.declared.nodes.Nodes.{Nodes}
+use Rattle.origin.specs.Inner.Ways.{Pushed, Popped, waiting_clause, waiting_of, weight, load, load_of, WayRight, Waiting}
+use Rattle.origin.specs.declared.literal.Ways.{Ways}
 
 -- a node weighs something, and three times what a lower one does or more
 pub weight-some : (n : ℕ) → 0 < weight n
@@ -67,40 +70,64 @@ module _ (ways : List ℕ) (d : ℕ) where
   load-last = ap (load ways) (add-one d)
 
 -- one way more waits
-module _ (w : Way) (before : List ℕ) (d next : ℕ) (after : List ℕ) (node : w.node < most_nodes) (room : d < length before)
-    (p : Pushed w before d next after) where
-  top : way_of (get_or after d 0) ≡ w
+module _ (w : Way) (before after : Ways) (node : w.node < most_nodes) (room : before.depth < length before.held)
+    (p : Pushed w before after) where
+  top : way_of (get_or after.held before.depth 0) ≡ w
   top =
-      ap (λ (l : List ℕ). way_of (get_or l d 0)) p.list ∙ ap way_of (get_or-set_same before d (packed w) 0 room) ∙ way-packed w node
+      ap (λ (l : List ℕ). way_of (get_or l before.depth 0)) p.list
+      ∙ ap way_of (get_or-set_same before.held before.depth (packed w) 0 room)
+      ∙ way-packed w node
 
-  below : (i : ℕ) → i < d → get_or after i 0 ≡ get_or before i 0
-  below i h = ap (λ (l : List ℕ). get_or l i 0) p.list ∙ get_or-set_other before d i (packed w) 0 (λ e. omega arith)
+  below : (i : ℕ) → i < before.depth → get_or after.held i 0 ≡ get_or before.held i 0
+  below i h =
+      ap (λ (l : List ℕ). get_or l i 0) p.list ∙ get_or-set_other before.held before.depth i (packed w) 0 (λ e. omega arith)
 
-  pub clause_pushed : (name : ℕ → ℕ) (ns : List Node)
-      → waiting_clause name ns after next ≡ way_clause name ns w ++ waiting_clause name ns before d
-  clause_pushed name ns =
-      let e = clause-same after before name ns d below in
-      ap (waiting_clause name ns after) p.place ∙ clause-last after d name ns ∙ (λ i. way_clause name ns (top i) ++ e i)
+  pub clause_pushed : (x : Nodes) → waiting_of x after ≡ seen_clause x w ++ waiting_of x before
+  clause_pushed x =
+      let name = names_in x.helpers.now in
+      let ns = nodes_of x.table.now in
+      let e = clause-same after.held before.held name ns before.depth below in
+      ap (waiting_clause name ns after.held) p.place
+      ∙ clause-last after.held before.depth name ns
+      ∙ (λ i. way_clause name ns (top i) ++ e i)
 
-  pub load_pushed : load after next ≡ weight w.node + load before d
+  pub load_pushed : load_of after ≡ weight w.node + load_of before
   load_pushed =
-      let e = load_same after before d below in
-      ap (load after) p.place ∙ load-last after d ∙ (λ i. weight (top i).node + e i)
+      let e = load_same after.held before.held before.depth below in
+      ap (load after.held) p.place ∙ load-last after.held before.depth ∙ (λ i. weight (top i).node + e i)
 
-  pub waiting_pushed : (t : List ℕ) (cs ls : List (List ℕ)) (helpers : List ℕ) → d < most_nodes → Waiting t cs ls helpers before d
-      → WayRight (names_in helpers) (nodes_of t) d w → Waiting t cs ls helpers after next
-  waiting_pushed t cs ls helpers h waits right = record {
+  pub waiting_pushed : (x : Nodes) → before.depth < most_nodes → Waiting x before → WayRight x before.depth w → Waiting x after
+  waiting_pushed x h waits right = record {
     writable = waits.writable;
-    size = ap length p.list ∙ length-set before d (packed w) ∙ waits.size;
-    most = omega (arith, p.place);
-    each = λ i g. go i (ltb i d) refl (omega (arith, p.place));
+    shape = record {
+      size = ap length p.list ∙ length-set before.held before.depth (packed w) ∙ waits.shape.size;
+      most = omega (arith, p.place);
+    };
+    each = λ i g. go i (ltb i before.depth) refl (omega (arith, p.place));
   }
     where
-      go : (i : ℕ) (b : Bool) → ltb i d ≡ b → i ≤ d → WayRight (names_in helpers) (nodes_of t) i (way_of (get_or after i 0))
+      go : (i : ℕ) (b : Bool) → ltb i before.depth ≡ b → i ≤ before.depth → WayRight x i (way_of (get_or after.held i 0))
       go i true e g =
-          let low = ltb-true i d e in
-          subst⁻¹ (λ (x : ℕ). WayRight (names_in helpers) (nodes_of t) i (way_of x)) (below i low) (waits.each i low)
+          let low = ltb-true i before.depth e in
+          subst⁻¹ (λ (n : ℕ). WayRight x i (way_of n)) (below i low) (waits.each i low)
       go i false e g =
-          let f : i ≡ d = omega (arith, ltb-false i d e) in
-          subst⁻¹ (λ (j : ℕ). WayRight (names_in helpers) (nodes_of t) j (way_of (get_or after j 0))) f
-          (subst⁻¹ (WayRight (names_in helpers) (nodes_of t) d) top right)
+          let f : i ≡ before.depth = omega (arith, ltb-false i before.depth e) in
+          subst⁻¹ (λ (j : ℕ). WayRight x j (way_of (get_or after.held j 0))) f (subst⁻¹ (WayRight x before.depth) top right)
+
+-- the last way waits no longer
+module _ (w : Way) (before after : Ways) (p : Popped before (Some w) after) where
+  pub clause_popped : (x : Nodes) → waiting_of x before ≡ seen_clause x w ++ waiting_of x after
+  clause_popped x =
+      let name = names_in x.helpers.now in
+      let ns = nodes_of x.table.now in
+      let list = sym p.1 in
+      let last = sym p.2 in
+      ap (waiting_clause name ns before.held) p.0
+      ∙ clause-last before.held after.depth name ns
+      ∙ (λ i. way_clause name ns (last i) ++ waiting_clause name ns (list i) after.depth)
+
+  pub load_popped : load_of before ≡ weight w.node + load_of after
+  load_popped =
+      let list = sym p.1 in
+      let last = sym p.2 in
+      ap (load before.held) p.0 ∙ load-last before.held after.depth ∙ (λ i. weight (last i).node + load (list i) after.depth)

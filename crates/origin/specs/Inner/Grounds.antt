@@ -1,7 +1,7 @@
 -- What the writers of lines ask: a formula that was prepared, its helpers, and lists of names with their notes.
 -- Assumes nothing: these are definitions.
 use Rattle.std.specs.Prelude.{List, [], ◌≡◌, ℕ, ◌<◌, length, get_or}
-use Rattle.answer.specs.declared.Answer.TheVariants.{Accepted}
+use Rattle.answer.specs.Answers.{accepted_with}
 use Rattle.formula.specs.Checks.{checked}
 use Rattle.formula.specs.Tables.{nodes_of}
 use Rattle.formula.specs.declared.node.Node.{Node}
@@ -9,6 +9,7 @@ use Rattle.clausal.specs.Clauses.{Clause, renaming}
 use Rattle.clausal.specs.Output.{output_of}
 use Rattle.clausal.specs.Totals.{clause_ceiling}
 use Rattle.walk.specs.Inner.Lists.{own_list}
+use Rattle.walk.specs.declared.nodes.Nodes.{Nodes}
 use Rattle.parts.specs.Inner.Helpers.{helpers_of}
 use Rattle.parts.specs.Inner.Parts.{around}
 use Rattle.convert.specs.Inner.Fitted.{Prepared}
@@ -17,11 +18,11 @@ use Rattle.origin.specs.declared.part.Spot.{Spot}
 use Rattle.origin.specs.Origins.{Source, fields_of, line_text}
 
 -- a formula under a set, both right, below the ceiling, with its marks, totals and helpers
-pub record Ground (t : List ℕ) (v : ℕ) (marks s : List ℕ) (cs ls : List (List ℕ)) (helpers : List ℕ) : Type 0 where
-  pub table : checked t v ≡ Accepted 0 0
-  pub prepared : Prepared t v marks s cs ls
-  pub named : helpers ≡ helpers_of (renaming v s) (length s)
-  pub short : length (output_of (renaming v s) (nodes_of t)) < clause_ceiling
+pub record Ground (x : Nodes) (v : ℕ) (marks s : List ℕ) : Type 0 where
+  pub table : checked x.table.now v ≡ accepted_with 0 0
+  pub prepared : Prepared x.table.now v marks s x.columns.now
+  pub named : x.helpers.now ≡ helpers_of (renaming v s) (length s)
+  pub short : length (output_of (renaming v s) (nodes_of x.table.now)) < clause_ceiling
 
 module _ (name : ℕ → ℕ) (ns : List Node) where
   -- the clause at a spot, and what the line says of it

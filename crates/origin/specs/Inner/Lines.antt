@@ -1,22 +1,27 @@
 -- Lines as they are written run by run, and what their writers ask and leave.
 -- Assumes nothing: these are definitions.
-use Rattle.std.specs.Prelude.{Bool, List, [], ◌∷◌, ◌++◌, ◌≡◌, ℕ, zero, suc, ◌+◌, ◌-◌, ◌<◌, ◌≤◌, length, get_or}
+use Rattle.std.specs.Prelude.{List, [], ◌∷◌, ◌++◌, ◌≡◌, ℕ, zero, suc, ◌+◌, ◌-◌, ◌<◌, ◌≤◌, length}
+use denote.Ref.{Bor}
 use Rattle.laws.specs.Lists.{Every}
-use Rattle.formula.specs.Tables.{node_count, nodes_of}
+use Rattle.formula.specs.Tables.{nodes_of}
 use Rattle.formula.specs.declared.node.Node.{Node}
 use Rattle.text.specs.Texts.{decimal, parted}
-use Rattle.names.specs.Names.{newline}
-use Rattle.names.specs.Inner.Notes.{Noted}
+use Rattle.names.specs.Names.{newline, name_of}
+use Rattle.names.specs.Inner.Notes.{no_notes, Noted}
 use Rattle.clausal.specs.Clauses.{Literal, Clause, Renaming, renaming, renamed_below}
 use Rattle.clausal.specs.Output.{output_of}
-use Rattle.walk.specs.Inner.Lists.{names_in, own_list, shown_all}
+use Rattle.walk.specs.Inner.Lists.{names_in, shown_all}
+use Rattle.walk.specs.Inner.Steps.{way}
+use Rattle.walk.specs.declared.nodes.Nodes.{Nodes}
 use Rattle.origin.specs.Inner.Spots.{direction_of, sign_of}
+use Rattle.origin.specs.declared.line.Span.{Span}
 use Rattle.origin.specs.declared.part.Spot.{Spot}
 use Rattle.origin.specs.Origins.{direction_word, shown_literal, line_of}
 use Rattle.origin.specs.Inner.Grounds.{Ground, spot_clause}
 use Rattle.origin.specs.Inner.Pens.{Standing, Drawn}
 use Rattle.origin.specs.Inner.Ways.{Startable}
 use Rattle.origin.specs.declared.pen.Pen.{Pen}
+use Rattle.origin.specs.declared.voices.Voices.{Voices}
 
 -- how many names a right list has
 abbrev pub name_count : List ℕ → ℕ
@@ -48,33 +53,54 @@ lines_from name u ns from (suc n) = lines_from name u ns from n ++ line_of name 
 abbrev pub Ranged : ℕ → Clause → Type 0
 Ranged most c = Every (λ l. (0 < l.variable) × (l.variable ≤ most)) c
 
+-- how many options there are, and both lists of names
+pub record Lists : Type 0 where
+  pub options : ℕ
+  pub option_list : List ℕ
+  pub helper_list : List ℕ
+
+abbrev pub lists_of : Voices → Lists
+lists_of x = record { options = x.options; option_list = x.option_names.now; helper_list = x.helper_names.now }
+
+-- lists of which nothing is noted
+abbrev pub unnoted : ℕ → Bor (List ℕ) → Bor (List ℕ) → Voices
+unnoted v options helpers = record {
+  options = v;
+  option_names = options;
+  helper_names = helpers;
+  option_notes = no_notes;
+  helper_notes = no_notes;
+}
+
+-- the name of a variable
+abbrev pub named : Lists → ℕ → List ℕ
+named l = name_of l.option_list l.helper_list l.options
+
 -- both lists of names with their notes
-pub record Known (option_list helper_list option_notes helper_notes : List ℕ) (v : ℕ) : Type 0 where
-  pub options : Noted option_list v option_notes
-  pub helpers : Noted helper_list (name_count helper_list) helper_notes
+pub record Known (x : Voices) : Type 0 where
+  pub options : Noted x.option_names.now x.options x.option_notes
+  pub helpers : Noted x.helper_names.now (name_count x.helper_names.now) x.helper_notes
 
 -- the same, with a pen in a buffer and literals that have names
-pub record Voiced (option_list helper_list option_notes helper_notes : List ℕ) (v : ℕ) (c : Clause) (out : List ℕ) (p : Pen) : Type 0 where
-  pub known : Known option_list helper_list option_notes helper_notes v
-  pub ranged : Ranged (v + name_count helper_list) c
+pub record Voiced (x : Voices) (c : Clause) (out : List ℕ) (p : Pen) : Type 0 where
+  pub known : Known x
+  pub ranged : Ranged (x.options + name_count x.helper_names.now) c
   pub standing : Standing p out
 
--- bytes were put, and the lists still have their notes
-pub record Spoken (bytes option_list helper_list : List ℕ) (v : ℕ) (out : List ℕ) (p : Pen) (option_notes helper_notes after : List ℕ) (q : Pen)
-    : Type 0 where
+-- bytes were put, and the lists, which are the same, still have their notes
+pub record Spoken (bytes : List ℕ) (l : Lists) (out : List ℕ) (p : Pen) (x : Voices) (after : List ℕ) (q : Pen) : Type 0 where
   pub drawn : Drawn bytes out p after q
-  pub known : Known option_list helper_list option_notes helper_notes v
+  pub known : Known x
+  pub lists : lists_of x ≡ l
 
 -- a spot in a part of the output that has its clause, whose literals have names
-pub record Spotted (t : List ℕ) (cs ls : List (List ℕ)) (helpers option_list helper_list option_notes helper_notes : List ℕ) (v : ℕ)
-    (x : Spot) (out : List ℕ) (p : Pen) : Type 0 where
-  pub start : Startable t cs ls helpers x.node (sign_of x.direction) x.number
-  pub voiced : Voiced option_list helper_list option_notes helper_notes v (spot_clause (names_in helpers) (nodes_of t) x) out p
+pub record Spotted (x : Nodes) (y : Voices) (z : Spot) (out : List ℕ) (p : Pen) : Type 0 where
+  pub start : Startable x (way z.node (sign_of z.direction) z.number)
+  pub voiced : Voiced y (spot_clause (names_in x.helpers.now) (nodes_of x.table.now) z) out p
 
 -- clauses of the output, and a name for every variable
-pub record Tellable (t : List ℕ) (v : ℕ) (marks s : List ℕ) (cs ls : List (List ℕ)) (helpers option_list helper_list : List ℕ) (from end : ℕ)
-    : Type 0 where
-  pub ground : Ground t v marks s cs ls helpers
-  pub count : name_count helper_list ≡ renamed_below s (length s)
-  pub order : from ≤ end
-  pub within : end ≤ length (output_of (renaming v s) (nodes_of t))
+pub record Tellable (x : Nodes) (marks s : List ℕ) (l : Lists) (span : Span) : Type 0 where
+  pub ground : Ground x l.options marks s
+  pub count : name_count l.helper_list ≡ renamed_below s (length s)
+  pub order : span.from ≤ span.end
+  pub within : span.end ≤ length (output_of (renaming l.options s) (nodes_of x.table.now))

@@ -1,53 +1,57 @@
 -- What the calls for lines ask of each other.
 -- Assumes nothing: these are definitions.
-use Rattle.std.specs.Prelude.{Bool, true, cond, List, ◌≡◌, ℕ, ◌-◌, ◌≤◌, ◌<◌, leb, length}
-use Rattle.laws.specs.Lists.{splice}
-use Rattle.answer.specs.Answers.{Wrote}
-use Rattle.answer.specs.declared.Answer.TheVariants.{Accepted}
+use Rattle.std.specs.Prelude.{cond, List, ◌≡◌, ℕ, ◌+◌, ◌-◌, ◌≤◌, ltb, length, Option, Some, None, Result, Ok, Err}
+use Rattle.answer.specs.Answers.{Wrote, accepted_with, afterwards, stored}
+use Rattle.answer.specs.declared.Refusal.{Refusal}
+use Rattle.answer.specs.declared.Refusal.TheVariants.{NoClause}
 use Rattle.formula.specs.Checks.{checked}
 use Rattle.formula.specs.Tables.{nodes_of}
 use Rattle.formula.specs.declared.node.Node.{Node}
-use Rattle.names.specs.Names.{right_names, name_of}
-use Rattle.clausal.specs.Clauses.{Renaming, renaming}
+use Rattle.names.specs.Inner.Notes.{no_notes}
+use Rattle.clausal.specs.Clauses.{Renaming, renaming, renamed_below}
 use Rattle.clausal.specs.Output.{output_of}
-use Rattle.clausal.specs.Totals.{clause_ceiling}
-use Rattle.convert.specs.Inner.Fitted.{Convertible, Prepared}
-use Rattle.origin.specs.Calls.{origin_under, origins_under}
-use Rattle.origin.specs.Inner.Lines.{lines_from, Tellable}
+use Rattle.convert.specs.Inner.Fitted.{Convertible}
+use Rattle.walk.specs.declared.nodes.Nodes.{Nodes}
+use Rattle.origin.specs.Calls.{names_checked, origin_under, origins_under}
+use Rattle.origin.specs.Inner.Grounds.{Ground}
+use Rattle.origin.specs.Inner.Lines.{Lists, named, lines_from}
+use Rattle.origin.specs.declared.line.Span.{Span}
+use Rattle.origin.specs.declared.voices.Voices.{Voices}
 
--- lines, with lists of names that were checked
-pub record Writing (t : List ℕ) (v : ℕ) (marks s : List ℕ) (cs ls : List (List ℕ)) (helpers : List ℕ) (count : ℕ)
-    (option_list helper_list : List ℕ) (from end : ℕ) : Type 0 where
-  pub tellable : Tellable t v marks s cs ls helpers option_list helper_list from end
-  pub options : right_names v option_list ≡ true
-  pub helped : right_names count helper_list ≡ true
-  pub few : v ≤ 32_000
-  pub less : count ≤ 32_000
+-- the clauses that are told: clause k, where there is one, or all of them
+abbrev pub spanned : Option ℕ → ℕ → Result Span Refusal
+spanned None count = Ok (record { from = 0; end = count })
+spanned (Some k) count = cond (ltb k count) (Ok (record { from = k; end = k + 1 })) (Err (NoClause k))
 
--- bytes are in the buffer where there is room for them
-pub record Fitted (bytes before : List ℕ) (fits : Bool) (after : List ℕ) : Type 0 where
-  pub room : fits ≡ leb (length bytes) (length before)
-  pub list : after ≡ cond fits (splice before 0 bytes) before
+-- the lines of some clauses
+abbrev pub lines_between : Lists → Renaming → List Node → Span → List ℕ
+lines_between l u ns span = lines_from (named l) u ns span.from (span.end - span.from)
 
--- a formula that was prepared, and numbers of clauses of its output
-pub record Listed (t : List ℕ) (v : ℕ) (marks s : List ℕ) (cs ls : List (List ℕ)) (total from end : ℕ) : Type 0 where
-  pub table : checked t v ≡ Accepted 0 0
-  pub prepared : Prepared t v marks s cs ls
-  pub count : total ≡ length (output_of (renaming v s) (nodes_of t))
-  pub short : total < clause_ceiling
-  pub order : from ≤ end
-  pub within : end ≤ total
+-- refusal 16, then 7; else lines are written
+abbrev pub named_with : Lists → Renaming → List Node → List ℕ → List ℕ → Wrote (List ℕ)
+named_with l u ns lines before =
+    afterwards (names_checked u ns l.option_list l.helper_list) before (stored (accepted_with 0 0) lines before)
 
--- the lines from one clause to before another
-abbrev pub lines_between : List ℕ → List ℕ → Renaming → List Node → ℕ → ℕ → List ℕ
-lines_between option_list helper_list u ns from end = lines_from (name_of option_list helper_list u.taken) u ns from (end - from)
+-- nothing is noted of both lists
+pub record Unnoted (y : Voices) : Type 0 where
+  pub options : y.option_notes ≡ no_notes
+  pub helpers : y.helper_notes ≡ no_notes
+
+-- a formula that was prepared, numbers of clauses of its output, and how many helpers it has
+pub record Listed (x : Nodes) (marks s : List ℕ) (y : Voices) (count : ℕ) (span : Span) : Type 0 where
+  pub ground : Ground x y.options marks s
+  pub helped : count ≡ renamed_below s (length (nodes_of x.table.now))
+  pub order : span.from ≤ span.end
+  pub within : span.end ≤ length (output_of (renaming y.options s) (nodes_of x.table.now))
+  pub unnoted : Unnoted y
 
 -- a table that was checked
-pub record Showable (t : List ℕ) (v : ℕ) : Type 0 where
-  pub table : checked t v ≡ Accepted 0 0
-  pub convertible : Convertible t v
+pub record Showable (t : List ℕ) (y : Voices) : Type 0 where
+  pub table : checked t y.options ≡ accepted_with 0 0
+  pub convertible : Convertible t y.options
+  pub unnoted : Unnoted y
 
 -- the line of one clause, or the lines of all
-abbrev pub shown_under : Bool → Renaming → List Node → ℕ → List ℕ → List ℕ → List ℕ → Wrote (List ℕ)
-shown_under alone u ns k option_list helper_list before =
-    cond alone (origin_under u ns k option_list helper_list before) (origins_under u ns option_list helper_list before)
+abbrev pub shown_under : Option ℕ → Lists → Renaming → List Node → List ℕ → Wrote (List ℕ)
+shown_under (Some k) l u ns before = origin_under u ns k l.option_list l.helper_list before
+shown_under None l u ns before = origins_under u ns l.option_list l.helper_list before

@@ -1,6 +1,7 @@
 -- The writer's step leads to clause k of a node's own list: for every kind and both signs.
 -- Assumes nothing.
 use mathlib.Core.Path.{◌≡◌, refl, sym, ap, ◌∙◌, subst, subst⁻¹}
+use mathlib.Core.Logic.{◌⊎◌, inl, inr}
 use mathlib.Core.Bool.{Bool, true, false, cond}
 use mathlib.Core.List.{List, [], ◌∷◌}
 use Prim.Native.Nat.{ℕ, zero, suc, ◌<◌}
@@ -21,11 +22,12 @@ use Rattle.clausal.specs.Clauses.{Row, clauses, row_by, Clause, row_of}
 use Rattle.clausal.specs.Totals.{clause_ceiling}
 use Rattle.clausal.proofs.Rows.{seen_of, row_at}
 use Rattle.walk.specs.Inner.Lists.{signed, pair_in, names_in, own_list, seen_list}
-use Rattle.walk.specs.Inner.Steps.{count_in, step_by, lead_step, LeadsTo, Walkable}
+use Rattle.walk.specs.Inner.Steps.{count_in, step_by, lead_step, LeadsTo, Lower, way_clause, Walkable}
 use Rattle.walk.specs.Inner.Written.{Writable}
 use Rattle.walk.specs.declared.nodes.Nodes.{Nodes}
-use Rattle.walk.specs.declared.step.Step.TheVariants.{Nothing}
+use Rattle.walk.specs.declared.step.Step.TheVariants.{Nothing, Left, Right}
 use Rattle.walk.specs.declared.step.Step.{Step}
+use Rattle.walk.specs.declared.step.Way.{Way}
 use Rattle.walk.proofs.Laws.Counts.{no_literals_lem, seen-count, literals_are}
 use Rattle.walk.proofs.Laws.Found.{cat-leads, join-leads, joins_leads}
 
@@ -37,6 +39,12 @@ only c (suc k) h = absurd (omega arith)
 empty-only : (k : ℕ) → ◌≡◌ {A = Clause} (get_or ([] ∷ []) k []) []
 empty-only zero = refl
 empty-only (suc k) = refl
+
+-- a step to one child, on either side
+pub one-child : (name : ℕ → ℕ) (ns : List Node) (n : ℕ) (sign : Bool) (c : Clause) (step : Step) (w : Way)
+    → (step ≡ Left w) ⊎ (step ≡ Right w) → LeadsTo name ns n sign c step → Lower name ns n w × (c ≡ way_clause name ns w)
+one-child name ns n sign c step w (inl e) l = subst (LeadsTo name ns n sign c) e l
+one-child name ns n sign c step w (inr e) l = subst (LeadsTo name ns n sign c) e l
 
 module _ (ns : List Node) (cs : List (List ℕ)) (helpers : List ℕ)
     (counts : (n : ℕ) (sign : Bool) → count_in cs helpers n sign ≡ cap clause_ceiling (length (seen_list (names_in helpers) ns n sign)))

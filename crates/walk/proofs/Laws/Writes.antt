@@ -1,6 +1,7 @@
 -- The writer of a clause: what it may write next, and what it leaves, from what its calls leave.
 -- Assumes nothing.
 use mathlib.Core.Path.{◌≡◌, sym, ap, ◌∙◌, subst}
+use mathlib.Core.Logic.{◌⊎◌}
 use mathlib.Core.Bool.{Bool, true, false, cond}
 use mathlib.Core.List.{List, [], ◌∷◌, ◌++◌}
 use Prim.Native.Nat.{ℕ, ◌+◌, ◌^◌, ◌<◌, ◌≤◌}
@@ -19,9 +20,10 @@ use Rattle.walk.specs.Inner.Packed.{step_of, Led}
 use Rattle.walk.specs.Inner.Steps.{Leadable, Lower, LeadsTo, lead_step}
 use Rattle.walk.specs.Inner.Written.{Fits, Due, Put}
 use Rattle.walk.specs.declared.nodes.Nodes.{Nodes}
+use Rattle.walk.specs.declared.step.Step.TheVariants.{Left, Right}
 use Rattle.walk.specs.declared.step.Step.{Step}
 use Rattle.walk.specs.declared.step.Way.{Way}
-use Rattle.walk.proofs.Laws.Leads.{walkable, leads, only}
+use Rattle.walk.proofs.Laws.Leads.{walkable, leads, one-child, only}
 use Rattle.walk.proofs.Laws.Put.{put-nothing, put-run, put_as, fits_as, fits-left, fits-right, put_both, shown_append, shown-one}
 
 -- a literal as the only one of a clause: four bytes
@@ -89,6 +91,11 @@ module _ (x : Nodes) (w : Way) (r : MutBor (List ℕ)) (at : ℕ) where
         → Led (lead_step (node_at x.table.now w.node) x.columns.now.clauses x.columns.now.literals x.helpers.now w.node w.sign w.k) code
         → LeadsTo name ns w.node w.sign clause step
     due_leads step code e f = leads x d.writable w.node d.inside w.sign w.k step d.has d.short (e ∙ f.back)
+
+    pub due_child : (step : Step) (code : ℕ) (v : Way) → (step ≡ Left v) ⊎ (step ≡ Right v) → step ≡ step_of code
+        → Led (lead_step (node_at x.table.now w.node) x.columns.now.clauses x.columns.now.literals x.helpers.now w.node w.sign w.k) code
+        → Lower name ns w.node v × (clause ≡ seen_clause x v)
+    due_child step code v s e f = one-child name ns w.node w.sign clause step v s (due_leads step code e f)
 
     -- a child's clause may be written where there is room
     pub due_lower : (v : Way) (o : MutBor (List ℕ)) (next : ℕ) → Lower name ns w.node v

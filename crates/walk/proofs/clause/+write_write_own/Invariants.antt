@@ -4,7 +4,7 @@ use Rattle.std.proofs.Common.{◌+◌, ◌*◌}
 use Rattle.walk.proofs.clause.+write_write_own.Given as goal
 
 abbrev pub decreases-write : goal.decreases-write
-decreases-write l = 2 * l.way.node + 1
+decreases-write l = 2 * l.node + 1
 
 abbrev pub decreases-write_own : goal.decreases-write_own
-decreases-write_own l = 2 * l.way.node
+decreases-write_own l = 2 * l.node

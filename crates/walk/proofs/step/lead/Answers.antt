@@ -8,15 +8,15 @@ use Rattle.walk.proofs.step.lead.Goals as goal
 pub pack-requires : goal.pack-requires
 pack-requires c =
     let nodes = c.args.nodes.now in
-    let way = c.args.way in
+    let a = c.args in
     subst⁻¹ Made c.lead_step.ensures
-    (made_lead nodes.columns.now.clauses nodes.helpers.now (node_at nodes.table.now way.node) nodes.columns.now.literals way.node way.k way.sign
+    (made_lead nodes.columns.now.clauses nodes.helpers.now (node_at nodes.table.now a.node) nodes.columns.now.literals a.node a.k a.sign
     c.requires.leadable.walkable c.requires.k_bound)
 
 pub returns : goal.returns
 returns c =
     let nodes = c.args.nodes.now in
-    let way = c.args.way in
+    let a = c.args in
     led _ _ _ c.lead_step.ensures c.pack.ensures
-    (made_lead nodes.columns.now.clauses nodes.helpers.now (node_at nodes.table.now way.node) nodes.columns.now.literals way.node way.k way.sign
+    (made_lead nodes.columns.now.clauses nodes.helpers.now (node_at nodes.table.now a.node) nodes.columns.now.literals a.node a.k a.sign
     c.requires.leadable.walkable c.requires.k_bound)
