@@ -1,18 +1,18 @@
 -- Two allowances: the larger one renames every node that the smaller one renames, and its total is not above.
 -- Which pass decides, and where the first one does the choice is the first pass'. Assumes nothing.
-use mathlib.Core.Path.{◌≡◌, refl, sym, ap, ◌∙◌, subst}
+use mathlib.Core.Path.{◌≡◌, refl, ap, ◌∙◌}
 use mathlib.Core.Bool.{Bool, true, false, cond, ◌||◌}
 use mathlib.Core.List.{List}
-use Prim.Native.Nat.{ℕ, ◌+◌, ◌≤◌, ◌<◌}
+use Prim.Native.Nat.{ℕ, ◌≤◌, ◌<◌}
 use native.Mathlib.Omega.{arith}
 use lib.Dec.{ltb}
 use lib.ListN.{length, set, replicate}
 use borrow.Author.Tests.{lt-ltb, ltb-true, ltb-false}
-use Rattle.answer.specs.declared.Answer.TheVariants.{Accepted}
+use Rattle.answer.specs.Answers.{accepted_with}
 use Rattle.laws.proofs.Choices.{neither}
 use Rattle.marks.specs.Sets.{renamed, set_checked}
 use Rattle.formula.specs.declared.node.Node.{Node}
-use Rattle.clausal.specs.Clauses.{Renaming, renaming, under, renamed_below}
+use Rattle.clausal.specs.Clauses.{Renaming, renaming, under}
 use Rattle.clausal.specs.Totals.{total_under, clause_ceiling}
 use Rattle.clausal.specs.Choosing.{Choice, visit, nothing, first_pass, revisit, all_of, everything, second_pass, stands, choose}
 use Rattle.clausal.proofs.Helpers.{renamed-inside, below_grows}
@@ -20,7 +20,7 @@ use Rattle.clausal.proofs.Options.{totals-options}
 use Rattle.clausal.proofs.Totals.{clauses-read}
 use Rattle.choose.proofs.Laws.Chosen.{Revisited, leaves, stays, revisited, fits-first, by_pass, chosen-right}
 use Rattle.choose.proofs.Laws.Folds.{visits_keep, visits_same}
-use Rattle.choose.proofs.Laws.Grows.{Grows, total_falls, first-most, first_grows, same_first}
+use Rattle.choose.proofs.Laws.Grows.{total_falls, first-most, first_grows, same_first}
 
 -- choosing under a and under b. What is said of b alone holds of a too: compare a with itself
 pub record Compared (u : Renaming) (ns : List Node) (a b : ℕ) : Type 0 where
@@ -28,7 +28,7 @@ pub record Compared (u : Renaming) (ns : List Node) (a b : ℕ) : Type 0 where
   pub lower_total : total_under u ns (choose b u ns).chosen ≤ total_under u ns (choose a u ns).chosen
   pub not_above_unrenamed : total_under u ns (choose b u ns).chosen ≤ total_under u ns (replicate (length ns) 0)
   pub within_allowance : (choose b u ns).picks ≤ b
-  pub right_set : set_checked ns (choose b u ns).chosen ≡ Accepted 0 0
+  pub right_set : set_checked ns (choose b u ns).chosen ≡ accepted_with 0 0
 
 module _ (u : Renaming) (ns : List Node) where
   abbrev total : Choice → ℕ

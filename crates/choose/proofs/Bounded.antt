@@ -1,6 +1,6 @@
 -- With every node renamed that may be, each body is over literals alone: a definition has four clauses at most, and the root two.
 -- So the mended choice ends below the ceiling. Assumes nothing.
-use mathlib.Core.Path.{◌≡◌, refl, sym, ap, ◌∙◌, subst, subst⁻¹}
+use mathlib.Core.Path.{◌≡◌, refl, sym, ap, ◌∙◌, subst⁻¹}
 use mathlib.Core.Bool.{Bool, true, false, cond, not, ◌&&◌, ◌||◌}
 use mathlib.Core.List.{List}
 use Prim.Native.Nat.{ℕ, zero, suc, ◌+◌, ◌*◌, ◌-◌, ◌<◌, ◌≤◌}
@@ -10,13 +10,12 @@ use native.Mathlib.Omega.{arith}
 use lib.Dec.{T, eqb}
 use lib.ListN.{length}
 use borrow.Author.Tests.{eq-eqb, ne_eqb}
-use Rattle.laws.proofs.Every.{true_of}
 use Rattle.formula.specs.Inner.Right.{FieldBelow, Below}
 use Rattle.formula.specs.Tables.{node_in, most_nodes, use_of_a}
 use Rattle.formula.specs.declared.node.Kind.{Kind}
 use Rattle.formula.specs.declared.node.Kind.TheVariants.{False, True, Symbol, Not, And, Or, Implies, Equivalent, Unknown}
 use Rattle.formula.specs.declared.node.Node.{Node}
-use Rattle.marks.specs.Marks.{mark_of, to_a, to_b, halves_of}
+use Rattle.marks.specs.Marks.{mark_of, to_a, to_b}
 use Rattle.marks.specs.Paths.{has}
 use Rattle.marks.specs.Sets.{renamed, operator, reached, may_rename}
 use Rattle.marks.specs.declared.mark.Mark.{Mark}
@@ -25,13 +24,13 @@ use Rattle.marks.proofs.Laws.Polarity.{passed_a, passed_b, root-positive}
 use Rattle.clausal.specs.Clauses.{Row, Renaming, under, unit_row, row_by, name_of, row_of, helper_of, renamed_below}
 use Rattle.clausal.specs.Output.{definitions}
 use Rattle.clausal.specs.Totals.{Size, sizes, true_totals, clause_ceiling, total_under}
-use Rattle.clausal.specs.Choosing.{Choice, first_pass, all_of, everything, second_pass, choose}
+use Rattle.clausal.specs.Choosing.{Choice, all_of, everything, choose}
 use Rattle.clausal.proofs.Renamed.{one_at_most, below_le}
 use Rattle.clausal.proofs.Rows.{seen_of, row_at, a_below, b_below, seen_plain, seen-renamed}
 use Rattle.clausal.proofs.Totals.{totals-shown}
 use Rattle.totals.specs.Inner.Sums.{with_part, with_definition}
 use Rattle.totals.proofs.Laws.Sums.{whole_to, with_node_at, whole-more}
-use Rattle.choose.proofs.Laws.All.{all-size, all_renamed, all-next}
+use Rattle.choose.proofs.Laws.All.{all_renamed, all-next}
 use Rattle.choose.proofs.Allowances.{Decides, low, few, mends, decides, second-total}
 
 -- at most k clauses at each sign that a mark has

@@ -1,19 +1,18 @@
 -- What the second pass ends with, node by node. Nothing is said of dropping a kept node at the end: `Cases` of `clausal` has one
 -- that could go. Assumes nothing.
 use mathlib.Core.Path.{◌≡◌, refl, sym, ap, ◌∙◌, subst}
-use mathlib.Core.Bool.{Bool, true, false, cond}
-use mathlib.Core.List.{List, ◌++◌}
-use Prim.Native.Nat.{ℕ, zero, suc, ◌+◌, ◌≤◌, ◌<◌}
+use mathlib.Core.Bool.{Bool, true, false}
+use mathlib.Core.List.{List}
+use Prim.Native.Nat.{ℕ, zero, suc, ◌≤◌, ◌<◌}
 use native.Mathlib.Decide.{dec_lt}
 use native.Mathlib.Omega.{arith}
 use lib.Dec.{eqb}
-use lib.ListN.{length, get_or, set, take, drop, length-set}
+use lib.ListN.{length, get_or, set, length-set}
 use lib.Seq.{get_or-set_same, get_or-set_other, set-set, set-get_or, ext_get_or}
 use borrow.Author.Tests.{eqb-true, eqb-false}
 use Rattle.formula.specs.declared.node.Node.{Node}
 use Rattle.marks.specs.Sets.{renamed, may_rename}
 use Rattle.clausal.specs.Clauses.{Renaming}
-use Rattle.clausal.specs.Totals.{total_under}
 use Rattle.clausal.specs.Choosing.{Choice, visits_from, revisit, all_of, everything, second_pass}
 use Rattle.choose.specs.Ends.{Visiting, Ends}
 use Rattle.choose.proofs.Laws.All.{all-size, all-byte}

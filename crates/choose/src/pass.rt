@@ -1,20 +1,20 @@
 // The two passes over the nodes that may be renamed, the highest first: one puts nodes in, the other takes nodes out.
-ghost use Rattle.std.specs.Prelude.{◌&&◌, cond, true, false, [], ◌≡◌, ◌<◌, ltb};
+ghost use Rattle.std.specs.Prelude.{[], ◌≡◌, ◌<◌};
 ghost use Rattle.formula.specs.Tables.{most_nodes, nodes_of};
+ghost use Rattle.answer.specs.Answers.{accepted_with};
 ghost use Rattle.clausal.specs.Clauses.{renaming};
-ghost use Rattle.totals.specs.Inner.Columns.{cell};
 ghost use Rattle.clausal.specs.Choosing.{choose};
 ghost use Rattle.clausal.specs.Calls.{told, chosen_under, chosen_by};
-ghost use Rattle.choose.specs.Inner.Visits.{byte_of, kept_by, visit_in, visit_out, turn_of, pass_of, Choosable, Passable, Visitable};
+ghost use Rattle.choose.specs.Inner.Visits.{byte_of, byte_before, lowest, kept_by, small, is_tried, pass_of, Choosable, Passable, Visitable};
 ghost use Rattle.choose.specs.Inner.Visits.{Triable, Attempted, Visited};
 
-use crate::bytes::{clear, count_all, put_all};
-use answer::{Answer, is_refusal};
+use crate::bytes::{count_all, put_all};
+use answer::{Accepted, Answer, Refusal};
 use capped::total::ClauseTotal;
 use formula::node::{MOST_NODES, NODE_BYTES};
-use marks::mark::mark_all;
+use marks::mark::{Marks, mark_all};
 use marks::set::may_rename;
-use totals::rows::fill;
+use totals::rows::Columns;
 use totals::trial::trial;
 use totals::whole::whole;
 
@@ -25,231 +25,162 @@ pub struct Picked {
     pub total: ClauseTotal,
 }
 
-// What a pass does: it takes nodes out, or it puts nodes in, while fewer than the allowance are in.
+// What a pass does.
 #[derive(Clone, Copy)]
-pub struct Way {
-    pub drops: bool,
-    pub allowance: u32,
+pub enum Way {
+    // It puts nodes in, while fewer than the allowance are in.
+    Adds { allowance: u32 },
+    // It takes nodes out.
+    Drops,
+}
+
+impl Way {
+    // The byte that the pass gives to the nodes that it tries.
+    fn byte(self) -> u8
+        ensures { result ≡ byte_of self }
+    {
+        match self {
+            Way::Adds { .. } => 1,
+            Way::Drops => 0,
+        }
+    }
+
+    // The byte that such a node has before.
+    fn byte_before(self) -> u8
+        ensures { result ≡ byte_before self }
+    {
+        match self {
+            Way::Adds { .. } => 0,
+            Way::Drops => 1,
+        }
+    }
+
+    // The lowest node whose definition may count while node `i` is tried. Where nodes are put in, none below `i` is in yet.
+    fn lowest(self, i: usize) -> usize
+        ensures { result ≡ lowest self i }
+    {
+        match self {
+            Way::Adds { .. } => i,
+            Way::Drops => 0,
+        }
+    }
+
+    // Whether a trial is kept: the total falls, or, where a node is taken out, it does not rise.
+    fn keeps(self, before: ClauseTotal, after: ClauseTotal) -> bool
+        ensures { result ≡ kept_by self before.n after.n }
+    {
+        match self {
+            Way::Adds { .. } => after.n < before.n,
+            Way::Drops => after.n <= before.n,
+        }
+    }
 }
 
 // Whether P and N of node `i` have at most one clause each: to rename such a node never lowers the total.
-fn is_small(clauses: &[[u16; 1024]; 2], i: usize) -> bool
+fn is_small(columns: &Columns, i: usize) -> bool
     requires { i < most_nodes }
-    ensures { result ≡ (ltb (cell clauses.now 0 i) 2 && ltb (cell clauses.now 1 i) 2) }
+    ensures { result ≡ small columns.now.clauses i }
 {
-    if clauses[0][i] < 2 {
-        return clauses[1][i] < 2;
-    }
-    false
+    columns.clauses[0][i] < 2 && columns.clauses[1][i] < 2
 }
 
-// The byte that a pass gives to the nodes that it tries.
-fn byte_of(drops: bool) -> u8
-    ensures { result ≡ byte_of drops }
+// Whether node `i` is tried: it may be renamed, and where nodes are put in, one more is allowed and it is not small.
+fn is_tried(
+    table: &[u8],
+    marks: &Marks,
+    way: Way,
+    i: usize,
+    picked: Picked,
+    set: &[u8],
+    columns: &Columns,
+) -> bool
+    requires { Visitable way table.now marks.now i picked.picks picked.total.n set.now columns.now.clauses columns.now.literals }
+    ensures { result ≡ is_tried way (nodes_of table.now) i picked.picks columns.now.clauses }
 {
-    if drops {
-        return 0;
+    match way {
+        Way::Adds { allowance } => {
+            picked.picks < allowance && may_rename(table, marks, i) && !is_small(columns, i)
+        }
+        Way::Drops => may_rename(table, marks, i),
     }
-    1
-}
-
-// Where nodes are put in, no node below `i` is in yet: the lowest one whose definition may count.
-fn lowest(drops: bool, i: usize) -> usize
-    ensures { result ≡ cond drops 0 i }
-{
-    if drops {
-        return 0;
-    }
-    i
-}
-
-// Whether a trial is kept: the total falls, or, where a node is taken out, it does not rise.
-fn is_kept(drops: bool, before: ClauseTotal, after: ClauseTotal) -> bool
-    ensures { result ≡ kept_by drops before.n after.n }
-{
-    if drops {
-        return after.n <= before.n;
-    }
-    after.n < before.n
 }
 
 // Tries node `i`, and undoes it where the trial is not kept.
 fn attempt(
     table: &[u8],
-    marks: &[u8; 1024],
-    drops: bool,
-    i: usize,
-    picked: Picked,
-    set: &mut [u8],
-    clauses: &mut [[u16; 1024]; 2],
-    literals: &mut [[u32; 1024]; 2],
-) -> Picked
-    requires { Triable drops table.now marks.now i picked.picks picked.total.n set.old clauses.old literals.old }
-    ensures { Attempted drops (nodes_of table.now) i (record { picks = picked.picks; chosen = set.old })
-        (record { picks = result.picks; chosen = set.new }) result.total.n clauses.new literals.new }
-{
-    let picks = picked.picks;
-    let before = picked.total;
-    let total = trial(
-        table,
-        marks,
-        set,
-        lowest(drops, i),
-        i,
-        byte_of(drops),
-        clauses,
-        literals,
-    );
-    if !is_kept(drops, before, total) {
-        set[i] = byte_of(!drops);
-        return picked;
-    }
-    if drops {
-        return Picked {
-            picks: picks - 1,
-            total,
-        };
-    }
-    Picked {
-        picks: picks + 1,
-        total,
-    }
-}
-
-// Visits node `i`: it goes in where fewer nodes than the allowance are in, it may be renamed, and the total falls.
-fn visit(
-    table: &[u8],
-    marks: &[u8; 1024],
-    allowance: u32,
-    i: usize,
-    picked: Picked,
-    set: &mut [u8],
-    clauses: &mut [[u16; 1024]; 2],
-    literals: &mut [[u32; 1024]; 2],
-) -> Picked
-    requires { Visitable false table.now marks.now i picked.picks picked.total.n set.old clauses.old literals.old }
-    ensures { Visited false (visit_in allowance (nodes_of table.now)) (nodes_of table.now) i
-        (record { picks = picked.picks; chosen = set.old }) (record { picks = result.picks; chosen = set.new })
-        result.total.n clauses.new literals.new }
-{
-    if picked.picks >= allowance {
-        return picked;
-    }
-    if !may_rename(table, marks, i) {
-        return picked;
-    }
-    if is_small(clauses, i) {
-        return picked;
-    }
-    attempt(table, marks, false, i, picked, set, clauses, literals)
-}
-
-// Visits node `i` again: it goes out where it may be renamed and the total does not rise.
-fn revisit(
-    table: &[u8],
-    marks: &[u8; 1024],
-    i: usize,
-    picked: Picked,
-    set: &mut [u8],
-    clauses: &mut [[u16; 1024]; 2],
-    literals: &mut [[u32; 1024]; 2],
-) -> Picked
-    requires { Visitable true table.now marks.now i picked.picks picked.total.n set.old clauses.old literals.old }
-    ensures { Visited true (visit_out (nodes_of table.now)) (nodes_of table.now) i
-        (record { picks = picked.picks; chosen = set.old }) (record { picks = result.picks; chosen = set.new })
-        result.total.n clauses.new literals.new }
-{
-    if may_rename(table, marks, i) {
-        return attempt(table, marks, true, i, picked, set, clauses, literals);
-    }
-    picked
-}
-
-// The visit of node `i` in a pass.
-fn turn(
-    table: &[u8],
-    marks: &[u8; 1024],
+    marks: &Marks,
     way: Way,
     i: usize,
     picked: Picked,
     set: &mut [u8],
-    clauses: &mut [[u16; 1024]; 2],
-    literals: &mut [[u32; 1024]; 2],
+    columns: &mut Columns,
 ) -> Picked
-    requires { Visitable way.drops table.now marks.now i picked.picks picked.total.n set.old clauses.old literals.old }
-    ensures { Visited way.drops (turn_of way (nodes_of table.now)) (nodes_of table.now) i
-        (record { picks = picked.picks; chosen = set.old }) (record { picks = result.picks; chosen = set.new })
-        result.total.n clauses.new literals.new }
+    requires { Triable way table.now marks.now i picked.picks picked.total.n set.old columns.old.clauses columns.old.literals }
+    ensures { Attempted way (nodes_of table.now) i (record { picks = picked.picks; chosen = set.old })
+        (record { picks = result.picks; chosen = set.new }) result.total.n columns.new.clauses columns.new.literals }
 {
-    if way.drops {
-        return revisit(table, marks, i, picked, set, clauses, literals);
+    let total = trial(table, marks, set, way.lowest(i), i, way.byte(), columns);
+    if !way.keeps(picked.total, total) {
+        set[i] = way.byte_before();
+        return picked;
     }
-    visit(
-        table,
-        marks,
-        way.allowance,
-        i,
-        picked,
-        set,
-        clauses,
-        literals,
-    )
+    match way {
+        Way::Adds { .. } => Picked {
+            picks: picked.picks + 1,
+            total,
+        },
+        Way::Drops => Picked {
+            picks: picked.picks - 1,
+            total,
+        },
+    }
+}
+
+// Visits node `i`: it goes in, or out, where it is tried and the trial is kept.
+fn visit(
+    table: &[u8],
+    marks: &Marks,
+    way: Way,
+    i: usize,
+    picked: Picked,
+    set: &mut [u8],
+    columns: &mut Columns,
+) -> Picked
+    requires { Visitable way table.now marks.now i picked.picks picked.total.n set.old columns.old.clauses columns.old.literals }
+    ensures { Visited way (nodes_of table.now) i (record { picks = picked.picks; chosen = set.old })
+        (record { picks = result.picks; chosen = set.new }) result.total.n columns.new.clauses columns.new.literals }
+{
+    if is_tried(table, marks, way, i, picked, set, columns) {
+        return attempt(table, marks, way, i, picked, set, columns);
+    }
+    picked
 }
 
 // A pass over all nodes, from the set that it begins with and its picks.
-fn pass(table: &[u8], marks: &[u8; 1024], way: Way, picks: u32, set: &mut [u8]) -> Picked
-    requires { Passable way.drops table.now marks.now picks set.old }
-    ensures { record { answer = Answer.Accepted result.picks result.total.n; output = set.new } ≡ told (renaming 0 [])
+fn pass(table: &[u8], marks: &Marks, way: Way, picks: u32, set: &mut [u8]) -> Picked
+    requires { Passable way table.now marks.now picks set.old }
+    ensures { record { answer = accepted_with result.picks result.total.n; output = set.new } ≡ told (renaming 0 [])
         (nodes_of table.now) (pass_of way (nodes_of table.now)) }
 {
-    let mut clauses = [[0u16; MOST_NODES]; 2];
-    let mut literals = [[0u32; MOST_NODES]; 2];
-    fill(table, set, 0, &mut clauses, &mut literals);
     let count = table.len() / NODE_BYTES;
-    let sum = whole(
-        table,
-        marks,
-        set,
-        lowest(way.drops, count),
-        &clauses,
-        &literals,
-    );
-    let total = sum.clauses;
+    let mut columns = Columns::blank();
+    columns.fill(table, set, 0);
+    let total = whole(table, marks, set, way.lowest(count), &columns).clauses;
     let mut picked = Picked { picks, total };
-    let mut i = count;
-    while 0 < i {
-        i -= 1;
-        picked = turn(
-            table,
-            marks,
-            way,
-            i,
-            picked,
-            set,
-            &mut clauses,
-            &mut literals,
-        );
+    for i in (0..count).rev() {
+        picked = visit(table, marks, way, i, picked, set, &mut columns);
     }
     picked
 }
 
 // Chooses for a table that is right, with its marks, from the empty set. The first pass decides where it ends below the ceiling, or
 // where fewer nodes are allowed than may be renamed.
-fn choose_marked(table: &[u8], marks: &[u8; 1024], allowance: u32, set: &mut [u8]) -> Picked
-    requires { Passable false table.now marks.now 0 set.old }
-    ensures { record { answer = Answer.Accepted result.picks result.total.n; output = set.new } ≡ told (renaming 0 [])
+fn choose_marked(table: &[u8], marks: &Marks, allowance: u32, set: &mut [u8]) -> Picked
+    requires { Passable (Way.Adds allowance) table.now marks.now 0 set.old }
+    ensures { record { answer = accepted_with result.picks result.total.n; output = set.new } ≡ told (renaming 0 [])
         (nodes_of table.now) (choose allowance (renaming 0 []) (nodes_of table.now)) }
 {
-    let first = pass(
-        table,
-        marks,
-        Way {
-            drops: false,
-            allowance,
-        },
-        0,
-        set,
-    );
+    let first = pass(table, marks, Way::Adds { allowance }, 0, set);
     if first.total.n < ClauseTotal::CEILING {
         return first;
     }
@@ -258,16 +189,7 @@ fn choose_marked(table: &[u8], marks: &[u8; 1024], allowance: u32, set: &mut [u8
         return first;
     }
     put_all(table, marks, set);
-    let last = pass(
-        table,
-        marks,
-        Way {
-            drops: true,
-            allowance,
-        },
-        all,
-        set,
-    );
+    let last = pass(table, marks, Way::Drops, all, set);
     last
 }
 
@@ -279,16 +201,16 @@ fn choose_under(table: &[u8], allowance: u32, set: &mut [u8]) -> Answer
 {
     let count = table.len() / NODE_BYTES;
     if set.len() != count {
-        return Answer::Set { node: count as u32 };
+        return Err(Refusal::Set { node: count as u32 });
     }
-    clear(set);
-    let mut marks = [0u8; MOST_NODES];
+    set.fill(0);
+    let mut marks = [0; MOST_NODES];
     mark_all(table, &mut marks);
     let picked = choose_marked(table, &marks, allowance, set);
-    Answer::Accepted {
+    Ok(Accepted {
         first: picked.picks,
-        second: picked.total.n as u32,
-    }
+        second: u32::from(picked.total.n),
+    })
 }
 
 // Checks a table, and writes the set of nodes to rename under an allowance: picks and final total are reported.
@@ -296,9 +218,6 @@ pub fn choose(table: &[u8], options: u32, allowance: u32, set: &mut [u8]) -> Ans
     ensures { record { answer = result; output = set.new } ≡ chosen_by table.now options allowance
         set.old }
 {
-    let checked = formula::table::check(table, options);
-    if is_refusal(checked) {
-        return checked;
-    }
+    formula::table::check(table, options)?;
     choose_under(table, allowance, set)
 }

@@ -44,8 +44,8 @@ impl Mark {
         ensures { result ≡ joined self other }
     {
         Mark {
-            positive: self.positive || other.positive,
-            negative: self.negative || other.negative,
+            positive: self.positive | other.positive,
+            negative: self.negative | other.negative,
         }
     }
 

@@ -1,10 +1,11 @@
 -- The set of all nodes that may be renamed: its bytes, its length, and how many nodes it has.
 -- Assumes nothing.
-use mathlib.Core.Path.{◌≡◌, sym, ap, ◌∙◌}
+use mathlib.Core.Path.{◌≡◌, refl, ap, ◌∙◌}
 use mathlib.Core.Bool.{Bool, true, false, cond}
 use mathlib.Core.List.{List}
 use Prim.Native.Nat.{ℕ, suc, ◌+◌, ◌<◌}
 use native.Mathlib.Numerals.{add-one}
+use mir.Val.{bool_byte}
 use lib.Dec.{eqb}
 use lib.ListN.{length, get_or}
 use Rattle.laws.proofs.Upward.{length-up_to, get_d_up_to}
@@ -12,6 +13,11 @@ use Rattle.formula.specs.declared.node.Node.{Node}
 use Rattle.marks.specs.Sets.{renamed, may_rename}
 use Rattle.clausal.specs.Clauses.{renamed_below}
 use Rattle.clausal.specs.Choosing.{all_of}
+
+-- the byte of a test
+pub test-byte : (b : Bool) → bool_byte b ≡ cond b 1 0
+test-byte true = refl
+test-byte false = refl
 
 module _ (ns : List Node) where
   byte : List ℕ → ℕ → ℕ

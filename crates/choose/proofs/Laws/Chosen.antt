@@ -3,14 +3,14 @@
 use mathlib.Core.Path.{◌≡◌, refl, sym, ap, ◌∙◌}
 use mathlib.Core.Bool.{Bool, true, false, cond, ◌&&◌, ◌||◌}
 use mathlib.Core.List.{List}
-use Prim.Native.Nat.{ℕ, zero, suc, ◌+◌, ◌≤◌, ◌<◌}
+use Prim.Native.Nat.{ℕ, suc, ◌≤◌, ◌<◌}
 use native.Mathlib.Decide.{dec_lt}
 use native.Mathlib.Omega.{arith}
 use lib.Dec.{eqb}
 use lib.ListN.{length, set, replicate, length-set, length-replicate, get_or-replicate}
 use lib.Seq.{get_or-set_same, get_or-set_other}
 use borrow.Author.Tests.{eqb-true, eqb-false, ltb-true, leb-true, leb-false, eq-eqb, le-ltb}
-use Rattle.answer.specs.declared.Answer.TheVariants.{Accepted}
+use Rattle.answer.specs.Answers.{accepted_with}
 use Rattle.laws.proofs.Choices.{both}
 use Rattle.laws.proofs.First.{first_fails}
 use Rattle.marks.specs.Sets.{renamed, may_rename, byte_right, first_wrong_byte, set_checked}
@@ -18,7 +18,7 @@ use Rattle.formula.specs.declared.node.Node.{Node}
 use Rattle.marks.proofs.Laws.Sets.{RightSet}
 use Rattle.clausal.specs.Clauses.{Renaming, renamed_below}
 use Rattle.clausal.specs.Totals.{total_under}
-use Rattle.clausal.specs.Choosing.{Choice, taken, goes_in, visit, nothing, first_pass, dropped, no_higher, goes_out, revisit, all_of}
+use Rattle.clausal.specs.Choosing.{Choice, taken, goes_in, visit, nothing, first_pass, dropped, no_higher, revisit, all_of}
 use Rattle.clausal.specs.Choosing.{everything, second_pass, stands, choose}
 use Rattle.clausal.proofs.Renamed.{below_none, renamed-set-other, below_set, below_unset}
 use Rattle.choose.proofs.Laws.All.{all-size, all-byte, all_renamed}
@@ -54,10 +54,10 @@ right_set_with ns s k b r m = record { size = length-set s k b ∙ r.size; bytes
     at i h false e = ap (right_byte ns i) (get_or-set_other s k i b 0 (eqb-false i k e)) ∙ r.bytes i h
 
 -- refusal 4 does not come where every byte is right
-pub set-checked : (ns : List Node) (s : List ℕ) → RightSet ns s → set_checked ns s ≡ Accepted 0 0
+pub set-checked : (ns : List Node) (s : List ℕ) → RightSet ns s → set_checked ns s ≡ accepted_with 0 0
 set-checked ns s r = go (dec_lt (first_wrong_byte ns s) (length ns))
   where
-    go : Dec (first_wrong_byte ns s < length ns) → set_checked ns s ≡ Accepted 0 0
+    go : Dec (first_wrong_byte ns s < length ns) → set_checked ns s ≡ accepted_with 0 0
     go (yes h) =
         let wrong = first_fails (byte_right ns s) (length ns) h in
         let right = r.bytes (first_wrong_byte ns s) h in
@@ -184,7 +184,7 @@ module _ (u : Renaming) (ns : List Node) where
       by_pass a (λ (c : Choice). c.picks ≡ renamed_below c.chosen (length ns)) (λ e. (fits-first a).counted) (λ e. fits-second.counted)
 
   -- the chosen set is accepted for converting
-  pub chosen-right : (a : ℕ) → set_checked ns (choose a u ns).chosen ≡ Accepted 0 0
+  pub chosen-right : (a : ℕ) → set_checked ns (choose a u ns).chosen ≡ accepted_with 0 0
   chosen-right a =
       set-checked ns (choose a u ns).chosen
       (by_pass a (λ (c : Choice). RightSet ns c.chosen) (λ e. (fits-first a).right) (λ e. fits-second.right))

@@ -1,14 +1,9 @@
--- `choose::bytes::count_all` meets its contract. The loop's invariant: the nodes that are passed are counted.
--- The measure is the number of nodes left. Assumes nothing.
+-- `choose::bytes::count_all` meets its contract. The loop's invariant: the nodes that are passed are counted. Assumes nothing.
 use mathlib.Core.Path.{◌≡◌}
-use Prim.Native.Nat.{◌-◌, ◌≤◌}
-use Rattle.formula.specs.Tables.{nodes_of, node_count}
+use Rattle.formula.specs.Tables.{nodes_of}
 use Rattle.clausal.specs.Clauses.{renamed_below}
 use Rattle.clausal.specs.Choosing.{all_of}
 use Rattle.choose.proofs.bytes.count_all.Given as goal
 
 abbrev pub invariant-loop-i : goal.invariant-loop-i
-invariant-loop-i l = (l.i ≤ node_count l.table) × (l.all ≡ renamed_below (all_of (nodes_of l.table)) l.i)
-
-abbrev pub decreases-loop-i : goal.decreases-loop-i
-decreases-loop-i l = node_count l.table - l.i
+invariant-loop-i l = l.all ≡ renamed_below (all_of (nodes_of l.table)) l.i

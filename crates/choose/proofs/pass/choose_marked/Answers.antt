@@ -8,7 +8,6 @@ use Rattle.formula.specs.Tables.{nodes_of}
 use Rattle.formula.proofs.Laws.Tables.{length-nodes_of}
 use Rattle.choose.specs.Inner.Visits.{bare}
 use Rattle.choose.proofs.Laws.Chosen.{fits-first}
-use Rattle.choose.proofs.Laws.Decided.{below-decides, few-decides, second-decides}
 use Rattle.choose.proofs.pass.choose_marked.Goals as goal
 
 pub put_all-requires : goal.put_all-requires
