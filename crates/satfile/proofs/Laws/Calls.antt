@@ -18,7 +18,7 @@ use Rattle.formula.specs.Tables.{node_bytes, most_nodes}
 use Rattle.satfile.specs.Trees.{Tree, size_of, table_of}
 use Rattle.satfile.specs.Texts.{sat}
 use Rattle.satfile.specs.Inner.Reads.{Out, whole_in}
-use Rattle.satfile.specs.Inner.Parts.{DoneTo, WrongTo}
+use Rattle.satfile.specs.Inner.Parts.{DoneTo}
 use Rattle.satfile.specs.Inner.Calls.{body_call, read_call}
 use Rattle.satfile.specs.Calls.{tree_call}
 use Rattle.satfile.proofs.Laws.Records.{length_records}
@@ -48,10 +48,6 @@ module _ (text buffer : List ℕ) (h : Head) (e : h ≡ head_of sat text) where
 
       bytes : length (table_of x.tree) ≡ node_bytes * nodes
       bytes = length_records 0 x.tree ∙ ap (λ (n : ℕ). node_bytes * n) count
-
-      -- a second reading finds nothing wrong either
-      pub read_again : {before2 after2 : List ℕ} {place : ℕ} → WrongTo text before2 out place after2 → ⊥
-      read_again y = let z : ◌≡◌ {A = ℕ} 0 1 = cc (x.to.out, y.at.out) in omega arith
 
       module _ (few : nodes ≤ most_nodes) where
         by_store : stored (accepted_with h.value (size_of x.tree)) (table_of x.tree) buffer ≡ read_call text buffer
