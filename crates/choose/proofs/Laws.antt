@@ -1,7 +1,6 @@
 -- Laws of choosing, by subject.
 pub mod All
 pub mod Chosen
-pub mod Decided
 pub mod Folds
 pub mod Grows
 pub mod Pass

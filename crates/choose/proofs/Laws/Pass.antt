@@ -82,11 +82,6 @@ module _ (t marks : List ℕ) (w : Way) (first : ℕ) (set₀ : List ℕ) where
       }
 
   module _ (i picks sum : ℕ) (s : List ℕ) (cs ls : List (List ℕ)) (g : Passing i picks sum s cs ls) where
-    pub passing_size : length s ≡ length set₀
-    passing_size =
-        g.stands.size
-        ∙ sym (ap (λ (c : Choice). length c.chosen) g.asked.begins ∙ start-size w ns)
-
     pub passing_next : 0 < i → Visitable w t marks (i - 1) picks sum s cs ls
     passing_next h =
         let k : i ≡ i - 1 + 1 = omega arith in
