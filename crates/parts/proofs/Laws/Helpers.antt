@@ -57,8 +57,10 @@ module _ (taken : ℕ) (s zeros : List ℕ) where
 
     -- at any other the array has its 0
     pub naming_plain : renamed s i ≡ false → Naming helpers last (i + 1)
-    naming_plain e = subst (λ (l : List ℕ). Naming l last (i + 1)) kept
-        (subst (λ (k : ℕ). Naming (set helpers i 0) k (i + 1)) (add-zero last) (step 0 0 (ap (λ (z : Bool). cond z 1 0) (sym e)) (ap (λ (z : Bool). cond z (helper_of u i) 0) (sym e))))
+    naming_plain e =
+        let same = step 0 0 (ap (λ (z : Bool). cond z 1 0) (sym e)) (ap (λ (z : Bool). cond z (helper_of u i) 0) (sym e)) in
+        subst (λ (l : List ℕ). Naming l last (i + 1)) kept
+        (subst (λ (k : ℕ). Naming (set helpers i 0) k (i + 1)) (add-zero last) same)
       where
         zero-there : get_or helpers i 0 ≡ 0
         zero-there =
@@ -68,7 +70,3 @@ module _ (taken : ℕ) (s zeros : List ℕ) where
 
         kept : set helpers i 0 ≡ helpers
         kept = ap (set helpers i) (sym zero-there) ∙ set-get_or helpers i 0
-
-  pub naming_end : (helpers : List ℕ) (last i : ℕ) → Naming helpers last i → i ≡ length s
-      → (last ≡ variables_of u (length s)) × (helpers ≡ helpers_of u (length s))
-  naming_end helpers last i n e = (n.count ∙ ap (variables_of u) e, n.array ∙ ap (helpers_of u) e)

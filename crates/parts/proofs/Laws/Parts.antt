@@ -6,10 +6,10 @@ use mathlib.Core.List.{List, [], ◌∷◌, ◌++◌, map, append_assoc, append-
 use Prim.Native.Nat.{ℕ, zero, suc, ◌+◌, ◌*◌, ◌<◌, ◌≤◌}
 use native.Mathlib.Numerals.{add-one}
 use native.Mathlib.Omega.{arith}
-use lib.Dec.{eqb, leb}
+use lib.Dec.{leb}
 use lib.ListN.{length, get_or, take, length-append}
 use lib.Seq.{take-suc}
-use borrow.Author.Tests.{eq-eqb, ne_eqb, leb-true, leb-false}
+use borrow.Author.Tests.{leb-true, leb-false}
 use denote.Ref.{MutBor, at_last}
 use Rattle.laws.specs.Lists.{splice}
 use Rattle.laws.specs.Numbers.{little}
@@ -21,21 +21,6 @@ use Rattle.walk.specs.Inner.Written.{Fits, Due, Put}
 use Rattle.walk.specs.declared.nodes.Nodes.{Nodes}
 use Rattle.walk.specs.declared.step.Way.{Way}
 use Rattle.walk.proofs.Laws.Put.{put-run, put_as, fits_as, fits-left, fits-right, put_both, shown_append}
-
--- the literal of a helper
-module _ (here plain : Bool) (h : ℕ) where
-  pub not-here : here ≡ false → helper_literal here plain h ≡ []
-  not-here e = rw e
-
-  pub no_helper : h ≡ 0 → helper_literal here plain h ≡ []
-  no_helper e = go here (eq-eqb h 0 e)
-    where
-      go : (z : Bool) → eqb h 0 ≡ true → helper_literal z plain h ≡ []
-      go true f = rw f
-      go false f = refl
-
-  pub helper-here : here ≡ true → ¬ (h ≡ 0) → helper_literal here plain h ≡ record { plain = plain; variable = h } ∷ []
-  helper-here e d = rw (e, ne_eqb h 0 d)
 
 -- the bytes of a clause are its literals' and the closing zero
 clause-closed : (c : Clause) → clause_bytes c ≡ shown_all literal_bytes c ++ little 4 0

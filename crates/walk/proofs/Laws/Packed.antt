@@ -67,9 +67,6 @@ second_way x y g = omega arith
 
 -- the step of a number, by its remainder
 module _ (c : ℕ) (s : Step) where
-  pub is_none : c % 8 ≡ 0 → s ≡ Nothing → s ≡ step_of c
-  is_none e f = f ∙ sym (tests c 0 Nothing _ e)
-
   pub is-literal : c % 8 ≡ 1 → s ≡ Literal (c / 8 % 4_294_967_296) → s ≡ step_of c
   is-literal e f = f ∙ sym (skips c 0 _ _ (λ z. omega arith) ∙ tests c 1 _ _ e)
 

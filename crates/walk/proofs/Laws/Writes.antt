@@ -4,7 +4,7 @@ use mathlib.Core.Path.{◌≡◌, sym, ap, ◌∙◌, subst}
 use mathlib.Core.Logic.{◌⊎◌}
 use mathlib.Core.Bool.{Bool, true, false, cond}
 use mathlib.Core.List.{List, [], ◌∷◌, ◌++◌}
-use Prim.Native.Nat.{ℕ, ◌+◌, ◌^◌, ◌<◌, ◌≤◌}
+use Prim.Native.Nat.{ℕ, ◌+◌, ◌<◌, ◌≤◌}
 use native.Mathlib.Omega.{arith}
 use lib.ListN.{length, get_or}
 use borrow.Author.Tests.{eq-eqb, ne_eqb}
@@ -36,9 +36,6 @@ module _ (c : Clause) (l : Literal) (e : c ≡ l ∷ []) where
 
   pub literal-room : (out : List ℕ) (at : ℕ) → Fits (shown_all literal_bytes c) out at → at + 4 ≤ length out
   literal-room out at f = omega (arith, ap length bytes, length-little 4 word, f.room)
-
-  pub literal-end : (out : List ℕ) (at : ℕ) → Fits (shown_all literal_bytes c) out at → at + 4 < 2 ^ 64
-  literal-end out at f = omega (arith, literal-room out at f, f.most)
 
   pub literal-put : (r : MutBor (List ℕ)) (at w : ℕ) (after : List ℕ) → w ≡ word → after ≡ splice r.now at (little 4 w)
       → Put (shown_all literal_bytes c) r at (at + 4) (at_last r after)

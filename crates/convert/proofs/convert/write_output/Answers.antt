@@ -1,9 +1,8 @@
 -- `convert::convert::write_output` meets its contract: the helpers, then all parts. Assumes nothing.
-use mathlib.Core.Path.{sym, ap, ◌∙◌}
+use mathlib.Core.Path.{ap}
 use mathlib.Core.List.{List}
-use Prim.Native.Nat.{ℕ}
 use native.Mathlib.Omega.{arith}
-use denote.Ref.{MutBor}
+use borrow.Author.Rules.{rules}
 use Rattle.laws.specs.Lists.{splice}
 use Rattle.clausal.specs.Clauses.{Clause, clauses_bytes}
 use Rattle.convert.proofs.Laws.Written.{unnamed, parts_are, output_due}
@@ -23,10 +22,6 @@ write_all-requires c =
 pub returns : goal.returns
 returns c =
     let a = c.args in
-    let bytes = c.write_all.ensures in (
-      c.name_all-last.ensures.0,
-      c.out-1.given.1.0 (sym (ap (λ (x : MutBor (List ℕ)). x.ghost_name) bytes))
-          ∙ ap (λ (x : MutBor (List ℕ)). x.now) bytes
-          ∙ ap (λ (l : List Clause). splice a.out.now 0 (clauses_bytes l))
-          (parts_are a.table.now a.taken a.marks.now a.set.now a.columns.now c.requires.prepared _ c.name_all-last.ensures.1),
-    )
+    let same = ap (λ (l : List Clause). splice a.out.now 0 (clauses_bytes l))
+    (parts_are a.table.now a.taken a.marks.now a.set.now a.columns.now c.requires.prepared _ c.name_all-last.ensures.1) in
+    search rules
