@@ -70,3 +70,8 @@ module _ (taken : ℕ) (s zeros : List ℕ) where
 
         kept : set helpers i 0 ≡ helpers
         kept = ap (set helpers i) (sym zero-there) ∙ set-get_or helpers i 0
+
+  -- in the end all nodes have their helpers
+  pub naming_end : (helpers : List ℕ) (last i : ℕ) → Naming helpers last i → i ≡ length s
+      → (last ≡ variables_of u (length s)) × (helpers ≡ helpers_of u (length s))
+  naming_end helpers last i n e = (n.count ∙ ap (variables_of u) e, n.array ∙ ap (helpers_of u) e)
