@@ -16,6 +16,12 @@ use Rattle.capped.proofs.total.LiteralTotal.add.Kinds as literal-add-kinds
 use Rattle.capped.proofs.total.LiteralTotal.add.Reads as literal-add
 use Rattle.capped.proofs.total.LiteralTotal.join.Kinds as literal-join-kinds
 use Rattle.capped.proofs.total.LiteralTotal.join.Reads as literal-join
+use Rattle.capped.proofs.total.Total.none.Kinds as none-kinds
+use Rattle.capped.proofs.total.Total.none.Reads as none
+use Rattle.capped.proofs.total.Total.empty.Kinds as empty-kinds
+use Rattle.capped.proofs.total.Total.empty.Reads as empty
+use Rattle.capped.proofs.total.Total.unit.Kinds as unit-kinds
+use Rattle.capped.proofs.total.Total.unit.Reads as unit
 use Rattle.capped.proofs.total.Total.cat.Kinds as cat-kinds
 use Rattle.capped.proofs.total.Total.cat.Reads as cat
 use Rattle.capped.proofs.total.Total.join.Kinds as join-kinds
@@ -50,6 +56,21 @@ pub literal-join-settled : (κs : Lfts 0) (a : Dens κs literal-join-kinds.ps) (
     → literal-join.Post κs a r s → literal-join.Post κs a q t → r ≡ q
 unfolding literal_total
 literal-join-settled κs a r q s t e f = ap literal_total (e ∙ sym f)
+
+pub none-settled : (κs : Lfts 0) (a : Dens κs none-kinds.ps) (r q : (res_t none-kinds.r κs).Denot)
+    (s t : AtExit (ended_of 0 none-kinds.ps none-kinds.r) κs)
+    → none.Post κs a r s → none.Post κs a q t → r ≡ q
+none-settled κs a r q s t e f = e ∙ sym f
+
+pub empty-settled : (κs : Lfts 0) (a : Dens κs empty-kinds.ps) (r q : (res_t empty-kinds.r κs).Denot)
+    (s t : AtExit (ended_of 0 empty-kinds.ps empty-kinds.r) κs)
+    → empty.Post κs a r s → empty.Post κs a q t → r ≡ q
+empty-settled κs a r q s t e f = e ∙ sym f
+
+pub unit-settled : (κs : Lfts 0) (a : Dens κs unit-kinds.ps) (r q : (res_t unit-kinds.r κs).Denot)
+    (s t : AtExit (ended_of 0 unit-kinds.ps unit-kinds.r) κs)
+    → unit.Post κs a r s → unit.Post κs a q t → r ≡ q
+unit-settled κs a r q s t e f = e ∙ sym f
 
 pub cat-settled : (κs : Lfts 0) (a : Dens κs cat-kinds.ps) (r q : (res_t cat-kinds.r κs).Denot)
     (s t : AtExit (ended_of 0 cat-kinds.ps cat-kinds.r) κs)

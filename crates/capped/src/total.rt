@@ -124,22 +124,34 @@ fn stated(clauses: ClauseTotal, literals: LiteralTotal) -> Total
 
 impl Total {
     // No clause.
-    pub const NONE: Self = Self {
-        clauses: ClauseTotal::ZERO,
-        literals: LiteralTotal::ZERO,
-    };
+    pub fn none() -> Self
+        ensures { result ≡ as_total capped.none }
+    {
+        Self {
+            clauses: ClauseTotal::ZERO,
+            literals: LiteralTotal::ZERO,
+        }
+    }
 
     // One empty clause.
-    pub const EMPTY: Self = Self {
-        clauses: ClauseTotal::ONE,
-        literals: LiteralTotal::ZERO,
-    };
+    pub fn empty() -> Self
+        ensures { result ≡ as_total capped.empty }
+    {
+        Self {
+            clauses: ClauseTotal::ONE,
+            literals: LiteralTotal::ZERO,
+        }
+    }
 
     // One clause of one literal.
-    pub const UNIT: Self = Self {
-        clauses: ClauseTotal::ONE,
-        literals: LiteralTotal::ONE,
-    };
+    pub fn unit() -> Self
+        ensures { result ≡ record { clauses = record { n = 1 }; literals = record { n = 1 } } }
+    {
+        Self {
+            clauses: ClauseTotal::ONE,
+            literals: LiteralTotal::ONE,
+        }
+    }
 
     // One list followed by another.
     pub fn cat(self, other: Self) -> Self

@@ -12,6 +12,7 @@ use borrow.Author.Tests.{eqb-true, eqb-false, eq-eqb, ne_eqb}
 use Rattle.laws.specs.Lists.{splice}
 use Rattle.laws.specs.Numbers.{little, little_at}
 use Rattle.laws.proofs.Bytes.{little_at-little}
+use Rattle.answer.proofs.Laws.Order.{refuses-number}
 use Rattle.answer.specs.Answers.{told_of, refuses, after, bytes_of, Wrote, stored, Left, leaves}
 use Rattle.answer.specs.Answers.{Answer}
 use Rattle.answer.specs.Answers.{accepted_with}
@@ -86,8 +87,8 @@ module _ {O : Type 0} (s : Seen O) (w : Wrote O)
   wrong : length s.part ≢ 16 → record { result = s.returned; output = s.after; part = s.told } ≡ left false
   wrong h = e ∙ ap left (ne_eqb (length s.part) 16 h)
 
-  refuses-number : (n : ℕ) → n ≢ 0 → not (eqb n 0) ≡ true
-  refuses-number n h = ap not (ne_eqb n 0 h)
+  number_refuses : (told_of w.answer).number ≢ 0 → refuses w.answer ≡ true
+  number_refuses h = refuses-number w.answer ∙ ap not (ne_eqb (told_of w.answer).number 0 h)
 
   pub answers : Kept s.before w → Answers w.answer s
   answers kept = record {
@@ -101,7 +102,7 @@ module _ {O : Type 0} (s : Seen O) (w : Wrote O)
       go true p n =
           let f = right (eqb-true (length s.part) 16 p) in
           let number : s.returned ≡ (told_of w.answer).number = ap (λ (l : Left O). l.result) f in
-          ap (λ (l : Left O). l.output) f ∙ kept (refuses-number (told_of w.answer).number (λ z. n (number ∙ z)))
+          ap (λ (l : Left O). l.output) f ∙ kept (number_refuses (λ z. n (number ∙ z)))
       go false p n = ap (λ (l : Left O). l.output) (wrong (eqb-false (length s.part) 16 p))
 
   -- 0 is returned: the part was right, the call accepted, and its own outputs stand
@@ -120,7 +121,7 @@ module _ {O : Type 0} (s : Seen O) (w : Wrote O)
           let f = right h in
           record {
             size = h;
-            accepted = ap (λ (n : ℕ). not (eqb n 0)) (sym (ap (λ (l : Left O). l.result) f) ∙ z);
+            accepted = refuses-number w.answer ∙ ap (λ (n : ℕ). not (eqb n 0)) (sym (ap (λ (l : Left O). l.result) f) ∙ z);
             outputs = ap (λ (l : Left O). l.output) f;
             values = ap (λ (l : Left O). l.part) f;
           }

@@ -151,7 +151,7 @@ pub record Formulas : Type 0 where
   pub many : (c : ReadSat) (v : ℕ) (t : Tree) → formula.Text v t (sat_text c) → most_nodes < size_of t → length (sat_seen c).part ≡ 16
       → (sat_seen c).returned ≡ 18
   -- R21.16: any other text is 17, with the length of the longest beginning that it shares with an accepted one
-  pub refuses : (c : ReadSat) (k : ℕ) → (formula.accepted_with (sat_text c) → ⊥) → Longest formula.accepted_with (sat_text c) k
+  pub refuses : (c : ReadSat) (k : ℕ) → (formula.Accepted (sat_text c) → ⊥) → Longest formula.Accepted (sat_text c) k
       → length (sat_seen c).part ≡ 16 → ((sat_seen c).returned ≡ 17) × ((sat_seen c).told ≡ bytes_of (refused 17 (cap most_shown k)))
   -- R21.22: the table that is left is accepted with the V that is told
   pub passes : (c : ReadSat) (d : Check) → (sat_seen c).returned ≡ 0 → (check_guard d).table ≡ table_left c

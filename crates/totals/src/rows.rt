@@ -1,7 +1,7 @@
 // The totals of every node under a set: clauses and literals, for each sign.
 ghost use Rattle.std.specs.Prelude.{◌≡◌, ◌<◌, ◌≤◌};
 ghost use Rattle.formula.specs.Tables.{most_nodes, node_at, node_count, nodes_of};
-ghost use Rattle.clausal.specs.Clauses.{row_by};
+ghost use Rattle.clausal.specs.Clauses.{no_row, row_by, unit_row};
 ghost use Rattle.clausal.specs.Totals.{capped};
 ghost use Rattle.totals.specs.Inner.Columns.{blank, row_in, child_in, row_next, Ready, Fillable};
 ghost use Rattle.totals.specs.Inner.Rowed.{rowed, as_row};
@@ -19,16 +19,24 @@ pub struct Row {
 
 impl Row {
     // A node that is none of a table.
-    const NONE: Row = Row {
-        p: Total::NONE,
-        n: Total::NONE,
-    };
+    fn none() -> Row
+        ensures { result ≡ as_row (no_row capped) }
+    {
+        Row {
+            p: Total::none(),
+            n: Total::none(),
+        }
+    }
 
     // A variable: one clause of one literal for either sign.
-    const UNIT: Row = Row {
-        p: Total::UNIT,
-        n: Total::UNIT,
-    };
+    fn unit() -> Row
+        ensures { result ≡ as_row (unit_row capped 0) }
+    {
+        Row {
+            p: Total::unit(),
+            n: Total::unit(),
+        }
+    }
 }
 
 // The totals of P and of N of every node, in columns: clauses and literals, each for both signs.
@@ -42,34 +50,39 @@ pub struct Columns {
 fn row_by(node: Node, x: Row, y: Row) -> Row
     ensures { result ≡ as_row (row_by capped node.kind node.a (rowed x) (rowed y)) }
 {
+    // As one value each, a child's totals would be packed and unpacked at every node.
+    let xp = x.p;
+    let xn = x.n;
+    let yp = y.p;
+    let yn = y.n;
     match node.kind {
         Kind::False => Row {
-            p: Total::EMPTY,
-            n: Total::NONE,
+            p: Total::empty(),
+            n: Total::none(),
         },
         Kind::True => Row {
-            p: Total::NONE,
-            n: Total::EMPTY,
+            p: Total::none(),
+            n: Total::empty(),
         },
-        Kind::Symbol => Row::UNIT,
-        Kind::Not => Row { p: x.n, n: x.p },
+        Kind::Symbol => Row::unit(),
+        Kind::Not => Row { p: xn, n: xp },
         Kind::And => Row {
-            p: x.p.cat(y.p),
-            n: x.n.join(y.n),
+            p: xp.cat(yp),
+            n: xn.join(yn),
         },
         Kind::Or => Row {
-            p: x.p.join(y.p),
-            n: x.n.cat(y.n),
+            p: xp.join(yp),
+            n: xn.cat(yn),
         },
         Kind::Implies => Row {
-            p: x.n.join(y.p),
-            n: x.p.cat(y.n),
+            p: xn.join(yp),
+            n: xp.cat(yn),
         },
         Kind::Equivalent => Row {
-            p: x.n.join(y.p).cat(y.n.join(x.p)),
-            n: x.n.join(y.n).cat(x.p.join(y.p)),
+            p: xn.join(yp).cat(yn.join(xp)),
+            n: xn.join(yn).cat(xp.join(yp)),
         },
-        Kind::Unknown => Row::NONE,
+        Kind::Unknown => Row::none(),
     }
 }
 
@@ -114,12 +127,12 @@ impl Columns {
         ensures { result ≡ as_row (child_in set.now self.now.clauses self.now.literals i at) }
     {
         if is_renamed(set, at) {
-            return Row::UNIT;
+            return Row::unit();
         }
         if at < i {
             return self.row_at(at);
         }
-        Row::NONE
+        Row::none()
     }
 
     // The row of node `i`, from the rows before it.

@@ -31,8 +31,8 @@ fn with_definition(m: Mark, row: Row, sum: Total) -> Total
     ensures { result ≡ as_total (with_definition capped 0 m (rowed row) (sized sum)) }
 {
     let halves = halves_of(m);
-    let down = with_part(halves.down, Total::UNIT.join(row.p), sum);
-    with_part(halves.up, row.n.join(Total::UNIT), down)
+    let down = with_part(halves.down, Total::unit().join(row.p), sum);
+    with_part(halves.up, row.n.join(Total::unit()), down)
 }
 
 // A sum with what node `i` adds: its definition, where it is renamed.
@@ -54,7 +54,7 @@ pub fn whole(table: &[u8], marks: &Marks, set: &[u8], from: usize, columns: &Col
 {
     let count = table.len() / NODE_BYTES;
     let root = columns.row_at(count - 1);
-    let mut sum = Total::NONE.cat(root.p);
+    let mut sum = Total::none().cat(root.p);
     for i in from..count {
         sum = with_node(marks, set, columns, i, sum);
     }

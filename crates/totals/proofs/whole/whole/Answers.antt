@@ -13,6 +13,7 @@ use Rattle.formula.proofs.Laws.Tables.{length-nodes_of}
 use Rattle.clausal.specs.Clauses.{renaming, name_of, row_of}
 use Rattle.clausal.specs.Totals.{capped}
 use Rattle.capped.specs.Inner.Sized.{sized, as_total}
+use Rattle.capped.specs.declared.total.Total.{Total}
 use Rattle.totals.specs.Inner.Rowed.{rowed}
 use Rattle.totals.specs.Inner.Sums.{with_node}
 use Rattle.totals.proofs.Laws.Columns.{ready-row}
@@ -29,6 +30,7 @@ loop-i-init c =
     ∙ ready-row s ns _ _ _ (omega (arith, length-nodes_of t)) c.requires.ready _
     ∙ ap (λ (k : ℕ). row_of capped (name_of (renaming 0 s)) ns (k - 1)) (sym (length-nodes_of t)) in
     c.cat-sum.ensures
+    ∙ ap (λ (x : Total). as_total (capped.cat (sized x) (rowed c.row_at-root.result).P)) c.none.ensures
     ∙ ap (λ r. as_total (capped.cat capped.none r.P)) row
     ∙ ap as_total (whole-start capped (renaming 0 s) ns _ c.requires.low)
 
