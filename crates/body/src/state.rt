@@ -151,7 +151,7 @@ impl State {
         self.open(Phase::Sign, 0)
     }
 
-    // The digit behind it.
+    // The digit behind a minus.
     pub fn lead(self, byte: u8) -> State
         requires { Digit self byte }
         ensures { result ≡ move_of Lead self (byte - 48) }

@@ -189,8 +189,7 @@ fn choose_marked(table: &[u8], marks: &Marks, allowance: u32, set: &mut [u8]) ->
         return first;
     }
     put_all(table, marks, set);
-    let last = pass(table, marks, Way::Drops, all, set);
-    last
+    pass(table, marks, Way::Drops, all, set)
 }
 
 // Chooses for a table that is right.

@@ -1,4 +1,3 @@
-// The class of each byte, from byte 0 on.
 // What is asked of most bytes, white space or digit, is one comparison: white space stands before all other classes, and digits
 // behind them.
 pub const BLANK: u8 = 0;
@@ -23,6 +22,7 @@ pub const NOUGHT: u8 = 9;
 
 pub const DIGIT: u8 = 10;
 
+// The class of each byte, from byte 0 on.
 pub const CLASSES: [u8; 256] = [
     REST, REST, REST, REST, REST, REST, REST, REST, REST, BLANK, // tab
     NEWLINE, // LF

@@ -17,7 +17,7 @@ use totals::prepare::prepare;
 use totals::rows::Columns;
 use walk::nodes::Nodes;
 
-// Whether totals are below their ceilings.
+// Checks that totals are below their ceilings.
 pub fn below(sum: Total) -> Answer
     ensures { result ≡ ceilings (sized sum) }
 {
@@ -33,7 +33,7 @@ pub fn below(sum: Total) -> Answer
     })
 }
 
-// Whether totals are below their ceilings, and a buffer has room for the output.
+// Checks that totals are below their ceilings, and that a buffer has room for the output.
 fn fit(sum: Total, room: usize) -> Answer
     ensures { result ≡ fitted (sized sum) room }
 {
@@ -106,7 +106,7 @@ fn convert_under(table: &[u8], taken: u32, set: &[u8], out: &mut [u8]) -> Answer
     write_under(table, taken, &marks, set, &columns, sum, out)
 }
 
-// Whether what is taken has all options, and no more than a project may have.
+// Checks that what is taken has all options, and no more than a project may have.
 fn check_taken(options: u32, taken: u32) -> Answer
     ensures { result ≡ taken_checked options taken }
 {

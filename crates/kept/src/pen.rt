@@ -1,5 +1,5 @@
 // Words and lines behind each other in two lent buffers: with a pen they are measured first, and then written.
-ghost use Rattle.std.specs.Prelude.{[], ◌∷◌, ◌≡◌, ◌+◌, ◌≤◌, length};
+ghost use Rattle.std.specs.Prelude.{[], ◌∷◌, ◌≡◌};
 ghost use Rattle.laws.specs.Inner.Stores.{Stored};
 ghost use Rattle.laws.specs.Numbers.{little};
 ghost use Rattle.kept.specs.Inner.Pens.{cause_text, change_for, line_for, Put, Puttable, Told, Tellable};
@@ -74,7 +74,7 @@ fn put_line(
     }
     let word = put_number(lines, at, clause);
     let last = put_bytes(lines, word, text);
-    put_field(lines, last, number, 10)
+    put_field(lines, last, number, b'\n')
 }
 
 // Puts the line of a change, and counts it.

@@ -1,8 +1,8 @@
 // Sets of renamed nodes: which nodes may be renamed, and the check of a lent set, refusal 4.
 ghost use Rattle.std.specs.Prelude.{◌≡◌, ◌<◌, length};
 ghost use Rattle.marks.specs.Inner.Held.{Marked, MarkedAt};
-ghost use Rattle.formula.specs.Tables.{node_count, nodes_of};
-ghost use Rattle.marks.specs.Sets.{renamed, operator, reached, may_rename, byte_right, first_wrong_byte, set_checked};
+ghost use Rattle.formula.specs.Tables.{nodes_of};
+ghost use Rattle.marks.specs.Sets.{renamed, operator, reached, may_rename, byte_right, set_checked};
 
 use crate::mark::{Mark, Marks, read};
 use answer::{Accepted, Answer, Refusal};

@@ -27,7 +27,7 @@ fn mix(seed: u32, code: usize) -> u64
     requires { (seed < seeds) × (code < 80_008) }
     ensures { result ≡ mix_of seed code }
 {
-    let factor = 2_654_435_761 + 1_000_006 * seed as u64;
+    let factor = 2_654_435_761 + 1_000_006 * u64::from(seed);
     let x = (code as u64 + 1) * factor % 4_294_967_296;
     x * x / 131_072
 }

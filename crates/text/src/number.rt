@@ -17,7 +17,7 @@ pub fn digit_of(byte: u8) -> u32
     u32::from(byte.saturating_sub(b'0'))
 }
 
-// One digit more: the step of every reader of numbers. `begun`: a digit stands before it, so value 0 is a leading zero.
+// One digit more. `begun`: a digit stands before it, so value 0 is a leading zero.
 // Nothing behind a leading zero, or over the limit.
 pub fn grown(begun: bool, value: u32, digit: u32, most: u32) -> Option<u32>
     ensures { result ≡ grown_of begun value digit most }

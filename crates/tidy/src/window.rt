@@ -6,6 +6,7 @@ ghost use Rattle.tidy.specs.Inner.Windows.{most, slot_of, first_after, Notable, 
 ghost use Rattle.tidy.specs.Inner.Windows.{Searchable, Searched, FirstsFound};
 
 use sets::row::Row;
+use sets::set::{end_of, is_same, sign};
 
 // The number of no clause.
 const NONE: u32 = 65_535;
@@ -45,10 +46,7 @@ fn is_found(bytes: &[u8], place: usize, sign: u64, spot: Spot, row: &mut Row) ->
     requires { Comparable bytes.now place sign spot }
     ensures { result ≡ same_literals (clause_from bytes.now place) (clause_from bytes.now spot.place) }
 {
-    if sign != spot.sign {
-        return false;
-    }
-    sets::set::is_same(bytes, place, spot.place, row)
+    sign == spot.sign && is_same(bytes, place, spot.place, row)
 }
 
 // The number of a clause of a window: as it was, or that of the clause that is looked for.
@@ -57,13 +55,11 @@ fn first_after(bytes: &[u8], place: usize, sign: u64, first: u32, spot: Spot, ro
     ensures { result
         ≡ first_after first (same_literals (clause_from bytes.now place) (clause_from bytes.now spot.place)) spot.number }
 {
-    if first != NONE {
-        return first;
+    if first == NONE && is_found(bytes, place, sign, spot, row) {
+        spot.number
+    } else {
+        first
     }
-    if is_found(bytes, place, sign, spot, row) {
-        return spot.number;
-    }
-    first
 }
 
 // Where the clauses of a window stand, and their signatures.
@@ -89,11 +85,11 @@ impl Window {
     {
         let mut at = place;
         for i in 0..count {
-            let sign = sets::set::sign(bytes, at, seed, row);
+            let sign = sign(bytes, at, seed, row);
             self.places[i] = at;
             self.signs[i] = sign;
             bits::put(slots, slot(sign), true);
-            at = sets::set::end_of(bytes, at) + 1;
+            at = end_of(bytes, at) + 1;
         }
     }
 
@@ -157,7 +153,7 @@ fn search(
     let mut misses = 0;
     let mut at = 0;
     for j in 0..end {
-        let sign = sets::set::sign(bytes, at, seed, row);
+        let sign = sign(bytes, at, seed, row);
         let spot = Spot {
             number: j,
             place: at,
@@ -167,7 +163,7 @@ fn search(
         if misses > limit {
             return None;
         }
-        at = sets::set::end_of(bytes, at) + 1;
+        at = end_of(bytes, at) + 1;
     }
     Some(firsts)
 }

@@ -1,5 +1,5 @@
 // The totals of every node under a set: clauses and literals, for each sign.
-ghost use Rattle.std.specs.Prelude.{◌≡◌, ◌<◌, ◌≤◌};
+ghost use Rattle.std.specs.Prelude.{◌≡◌, ◌<◌};
 ghost use Rattle.formula.specs.Tables.{most_nodes, node_at, node_count, nodes_of};
 ghost use Rattle.clausal.specs.Clauses.{no_row, row_by, unit_row};
 ghost use Rattle.clausal.specs.Totals.{capped};

@@ -26,7 +26,7 @@ fn write(nodes: &Nodes, out: &mut &mut [u8], at: usize, node: usize, sign: bool,
 }
 
 // Writes clause k of a node's own list for a sign from `at` on, and returns the next place. The node number falls at each call;
-// quotient and remainder chose among the children's clauses.
+// quotient and remainder choose among the children's clauses.
 #[cycle(write_write_own)]
 pub fn write_own(
     nodes: &Nodes,
