@@ -8,6 +8,7 @@ use contract.Lifetimes.{Lfts}
 use denote.Triple.Clauses.{AtExit}
 use borrow.Fn.Kinds.{Dens, ended_of, res_t}
 use Rattle.tidied.specs.Tidying.{Change}
+use Rattle.sets.proofs.Laws.Empty.{same_row}
 use Rattle.kept.specs.Inner.Pens.{Told, Drawn}
 use Rattle.kept.specs.declared.pen.Pen.{Pen}
 use Rattle.kept.proofs.pen.put_word.Kinds as put-word-kinds
@@ -52,10 +53,10 @@ pub put_fate_settled : (κs : Lfts 4) (a : Dens κs put-fate-kinds.ps) (r q : (r
     → put-fate.Post κs a r s → put-fate.Post κs a q t
     → (r ≡ q) × (s.1.1.1.1.0.now ≡ t.1.1.1.1.0.now)
     × (s.1.1.1.1.1.0.now ≡ t.1.1.1.1.1.0.now)
-    × (s.1.1.1.1.1.1.0.now.bits ≡ t.1.1.1.1.1.1.0.now.bits)
+    × (s.1.1.1.1.1.1.0.now ≡ t.1.1.1.1.1.1.0.now)
 put_fate_settled κs a r q s t e f = (
   drawn-same e f,
   e.kept_put.list ∙ sym f.kept_put.list,
   e.lines_put.list ∙ sym f.lines_put.list,
-  s.1.1.1.1.1.1.0.now.empty ∙ sym t.1.1.1.1.1.1.0.now.empty,
+  same_row s.1.1.1.1.1.1.0.now t.1.1.1.1.1.1.0.now,
 )

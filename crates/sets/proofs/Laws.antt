@@ -3,3 +3,4 @@ pub mod Walks
 pub mod Codes
 pub mod Signs
 pub mod Marking
+pub mod Empty

@@ -5,6 +5,7 @@ use mathlib.Core.Path.{◌≡◌, sym, ◌∙◌}
 use contract.Lifetimes.{Lfts}
 use denote.Triple.Clauses.{AtExit}
 use borrow.Fn.Kinds.{Dens, ended_of, res_t}
+use Rattle.sets.proofs.Laws.Empty.{same_row}
 use Rattle.sets.proofs.code.code.Kinds as code-kinds
 use Rattle.sets.proofs.code.code.Reads as code
 use Rattle.sets.proofs.row.Row.new.Kinds as new-kinds
@@ -51,20 +52,20 @@ end_of_settled κs a r q s t e f = e ∙ sym f
 
 pub is-same-settled : (κs : Lfts 2) (a : Dens κs is-same-kinds.ps) (r q : (res_t is-same-kinds.r κs).Denot)
     (s t : AtExit (ended_of 2 is-same-kinds.ps is-same-kinds.r) κs)
-    → is_same.Post κs a r s → is_same.Post κs a q t → (r ≡ q) × (s.1.1.1.0.now.bits ≡ t.1.1.1.0.now.bits)
-is-same-settled κs a r q s t e f = (e ∙ sym f, s.1.1.1.0.now.empty ∙ sym t.1.1.1.0.now.empty)
+    → is_same.Post κs a r s → is_same.Post κs a q t → (r ≡ q) × (s.1.1.1.0.now ≡ t.1.1.1.0.now)
+is-same-settled κs a r q s t e f = (e ∙ sym f, same_row s.1.1.1.0.now t.1.1.1.0.now)
 
 pub is-tautology-settled : (κs : Lfts 2) (a : Dens κs is-tautology-kinds.ps) (r q : (res_t is-tautology-kinds.r κs).Denot)
     (s t : AtExit (ended_of 2 is-tautology-kinds.ps is-tautology-kinds.r) κs)
-    → is-tautology.Post κs a r s → is-tautology.Post κs a q t → (r ≡ q) × (s.1.1.0.now.bits ≡ t.1.1.0.now.bits)
-is-tautology-settled κs a r q s t e f = (e ∙ sym f, s.1.1.0.now.empty ∙ sym t.1.1.0.now.empty)
+    → is-tautology.Post κs a r s → is-tautology.Post κs a q t → (r ≡ q) × (s.1.1.0.now ≡ t.1.1.0.now)
+is-tautology-settled κs a r q s t e f = (e ∙ sym f, same_row s.1.1.0.now t.1.1.0.now)
 
 pub sign-settled : (κs : Lfts 2) (a : Dens κs sign-kinds.ps) (r q : (res_t sign-kinds.r κs).Denot)
     (s t : AtExit (ended_of 2 sign-kinds.ps sign-kinds.r) κs)
-    → sign.Post κs a r s → sign.Post κs a q t → (r ≡ q) × (s.1.1.1.0.now.bits ≡ t.1.1.1.0.now.bits)
-sign-settled κs a r q s t e f = (e ∙ sym f, s.1.1.1.0.now.empty ∙ sym t.1.1.1.0.now.empty)
+    → sign.Post κs a r s → sign.Post κs a q t → (r ≡ q) × (s.1.1.1.0.now ≡ t.1.1.1.0.now)
+sign-settled κs a r q s t e f = (e ∙ sym f, same_row s.1.1.1.0.now t.1.1.1.0.now)
 
 pub new-settled : (κs : Lfts 0) (a : Dens κs new-kinds.ps) (r q : (res_t new-kinds.r κs).Denot)
     (s t : AtExit (ended_of 0 new-kinds.ps new-kinds.r) κs)
-    → new.Post κs a r s → new.Post κs a q t → r.bits ≡ q.bits
-new-settled κs a r q s t e f = e ∙ sym f
+    → new.Post κs a r s → new.Post κs a q t → r ≡ q
+new-settled κs a r q s t e f = same_row r q
