@@ -1,7 +1,7 @@
 // How a formula begins: with a symbol, or with a parenthesis that is opened.
-ghost use Rattle.std.specs.Prelude.{true, ◌≡◌, ◌+◌, ◌≤◌, ◌<◌, length, drop};
+ghost use Rattle.std.specs.Prelude.{true, ◌≡◌, ◌+◌, ◌<◌};
 ghost use Rattle.satfile.specs.Inner.Reads.{fills, negates, digits_from, number_in, one_of, operand_in, open_in, begin_in};
-ghost use Rattle.satfile.specs.Inner.Parts.{Skipped, TellsNumber, TellsBegin, leaf_nodes, leaf_bytes};
+ghost use Rattle.satfile.specs.Inner.Parts.{Inside, Skipped, TellsNumber, TellsBegin, leaf_nodes, leaf_bytes};
 
 use classes::is_space;
 use text::number::{digit_of, grown, is_digit};
@@ -58,57 +58,6 @@ pub struct Numeral {
     pub at: usize,
 }
 
-// The place behind white space.
-pub fn skip(text: &[u8], at: usize) -> usize
-    requires { at ≤ length text.now }
-    ensures { Skipped text.now at result }
-{
-    for i in at..text.len() {
-        if !is_space(text[i]) {
-            return i;
-        }
-    }
-    text.len()
-}
-
-// Reads the further digits of a number.
-fn digits(text: &[u8], at: usize, first: u32, most: u32) -> Result<Numeral, Wrong>
-    requires { at ≤ length text.now }
-    ensures { TellsNumber text.now at (digits_from most first (drop at text.now)) result }
-{
-    let mut value = first;
-    for i in at..text.len() {
-        let byte = text[i];
-        if !is_digit(byte) {
-            return Ok(Numeral { value, at: i });
-        }
-        let Some(more) = grown(true, value, digit_of(byte), most) else {
-            return Err(Wrong { place: i });
-        };
-        value = more;
-    }
-    Ok(Numeral {
-        value,
-        at: text.len(),
-    })
-}
-
-// Reads a number from 1 on.
-fn number(text: &[u8], at: usize, most: u32) -> Result<Numeral, Wrong>
-    requires { at < length text.now }
-    ensures { TellsNumber text.now (at + 1) (number_in most (drop at text.now)) result }
-{
-    let byte = text[at];
-    if !matches!(byte, b'1'..=b'9') {
-        return Err(Wrong { place: at });
-    }
-    let first = digit_of(byte);
-    if most < first {
-        return Err(Wrong { place: at });
-    }
-    digits(text, at + 1, first, most)
-}
-
 // Whether a formula can stand in a parenthesis, where `depth` of them may still be opened.
 fn is_filled(options: u32, depth: u32) -> bool
     ensures { result ≡ fills options depth }
@@ -130,56 +79,116 @@ fn one_of(negated: bool) -> Group
     if negated { Group::Not } else { Group::One }
 }
 
-// A number, or the parenthesis of one formula; negated or not.
-fn operand(text: &[u8], at: usize, depth: u32, options: u32, negated: bool) -> Result<Lead, Wrong>
-    requires { at ≤ length text.now }
-    ensures { TellsBegin (leaf_bytes negated) text.now at depth
-        (operand_in options depth negated (drop at text.now)) result }
-{
-    if text.len() <= at {
-        return Err(Wrong { place: at });
-    }
-    if text[at] != OPEN {
-        let numeral = number(text, at, options)?;
-        return Ok(Lead::Symbol {
-            value: numeral.value,
-            negated,
-            at: numeral.at,
-        });
-    }
-    if !is_filled(options, depth) {
-        return Err(Wrong { place: at });
-    }
-    Ok(Lead::Open {
-        group: one_of(negated),
-        at: at + 1,
-    })
+// What stays the same while formulas and lists call each other: what is read, and how many options there are. They are lent this
+// by one thin reference, which stands in a register.
+#[derive(Clone, Copy)]
+pub struct Reader<'a> {
+    pub text: &'a [u8],
+    pub options: u32,
 }
 
-// The parenthesis of a list, behind its `*` or `+`.
-fn list(text: &[u8], at: usize, depth: u32, group: Group) -> Result<Lead, Wrong>
-    requires { (at ≤ length text.now) × (0 < depth) }
-    ensures { TellsBegin (leaf_bytes true) text.now at depth (open_in group (drop at text.now)) result }
-{
-    if text.len() <= at || text[at] != OPEN {
-        return Err(Wrong { place: at });
+impl Reader<'_> {
+    // The place behind white space.
+    pub fn skip(&self, at: usize) -> usize
+        requires { Inside self.now at }
+        ensures { Skipped self.now at result }
+    {
+        for i in at..self.text.len() {
+            if !is_space(self.text[i]) {
+                return i;
+            }
+        }
+        self.text.len()
     }
-    Ok(Lead::Open { group, at: at + 1 })
-}
 
-// How the formula from a place on begins, where `depth` parentheses may still be opened.
-pub fn begin(text: &[u8], at: usize, depth: u32, options: u32) -> Result<Lead, Wrong>
-    requires { at ≤ length text.now }
-    ensures { TellsBegin leaf_nodes text.now at depth (begin_in options depth (drop at text.now)) result }
-{
-    if text.len() <= at {
-        return Err(Wrong { place: at });
+    // Reads the further digits of a number.
+    fn digits(&self, at: usize, first: u32) -> Result<Numeral, Wrong>
+        requires { Inside self.now at }
+        ensures { TellsNumber 0 self.now at (digits_from self.now.options first) result }
+    {
+        let mut value = first;
+        for i in at..self.text.len() {
+            let byte = self.text[i];
+            if !is_digit(byte) {
+                return Ok(Numeral { value, at: i });
+            }
+            let Some(more) = grown(true, value, digit_of(byte), self.options) else {
+                return Err(Wrong { place: i });
+            };
+            value = more;
+        }
+        Ok(Numeral {
+            value,
+            at: self.text.len(),
+        })
     }
-    match text[at] {
-        STAR if depth != 0 => list(text, at + 1, depth, Group::And),
-        PLUS if depth != 0 => list(text, at + 1, depth, Group::Or),
-        MINUS if is_negated(options, depth) => operand(text, at + 1, depth, options, true),
-        STAR | PLUS | MINUS => Err(Wrong { place: at }),
-        _ => operand(text, at, depth, options, false),
+
+    // Reads a number from 1 on.
+    fn number(&self, at: usize) -> Result<Numeral, Wrong>
+        requires { Inside self.now (at + 1) }
+        ensures { TellsNumber 1 self.now at (number_in self.now.options) result }
+    {
+        let byte = self.text[at];
+        if !matches!(byte, b'1'..=b'9') {
+            return Err(Wrong { place: at });
+        }
+        let first = digit_of(byte);
+        if self.options < first {
+            return Err(Wrong { place: at });
+        }
+        self.digits(at + 1, first)
+    }
+
+    // A number, or the parenthesis of one formula; negated or not.
+    fn operand(&self, at: usize, depth: u32, negated: bool) -> Result<Lead, Wrong>
+        requires { Inside self.now at }
+        ensures { TellsBegin (leaf_bytes negated) self.now at depth (operand_in self.now.options depth negated) result }
+    {
+        if self.text.len() <= at {
+            return Err(Wrong { place: at });
+        }
+        if self.text[at] != OPEN {
+            let numeral = self.number(at)?;
+            return Ok(Lead::Symbol {
+                value: numeral.value,
+                negated,
+                at: numeral.at,
+            });
+        }
+        if !is_filled(self.options, depth) {
+            return Err(Wrong { place: at });
+        }
+        Ok(Lead::Open {
+            group: one_of(negated),
+            at: at + 1,
+        })
+    }
+
+    // The parenthesis of a list, behind its `*` or `+`.
+    fn open(&self, at: usize, depth: u32, group: Group) -> Result<Lead, Wrong>
+        requires { (Inside self.now at) × (0 < depth) }
+        ensures { TellsBegin (leaf_bytes true) self.now at depth (open_in group) result }
+    {
+        if self.text.len() <= at || self.text[at] != OPEN {
+            return Err(Wrong { place: at });
+        }
+        Ok(Lead::Open { group, at: at + 1 })
+    }
+
+    // How the formula from a place on begins, where `depth` parentheses may still be opened.
+    pub fn begin(&self, at: usize, depth: u32) -> Result<Lead, Wrong>
+        requires { Inside self.now at }
+        ensures { TellsBegin leaf_nodes self.now at depth (begin_in self.now.options depth) result }
+    {
+        if self.text.len() <= at {
+            return Err(Wrong { place: at });
+        }
+        match self.text[at] {
+            STAR if depth != 0 => self.open(at + 1, depth, Group::And),
+            PLUS if depth != 0 => self.open(at + 1, depth, Group::Or),
+            MINUS if is_negated(self.options, depth) => self.operand(at + 1, depth, true),
+            STAR | PLUS | MINUS => Err(Wrong { place: at }),
+            _ => self.operand(at, depth, false),
+        }
     }
 }

@@ -14,8 +14,7 @@ use answer::{Accepted, Answer, Refusal};
 use classes::Classes;
 use formula::node::{MOST_NODES, MOST_OPTIONS, NODE_BYTES};
 use header::Form;
-use lead::{Group, Wrong};
-use nested::list;
+use lead::{Group, Reader, Wrong};
 
 // The most parentheses that may be open at once.
 const MOST_OPEN: u32 = 64;
@@ -54,16 +53,9 @@ pub fn read(text: &[u8], table: &mut [u8]) -> Answer
         return Err(Refusal::SatText { place: from });
     }
     let options = head.value;
+    let reader = Reader { text, options };
     let mut nowhere = [0u8; 1];
-    let whole = list(
-        text,
-        from,
-        0,
-        MOST_OPEN,
-        options,
-        Group::Whole,
-        &mut nowhere,
-    )?;
+    let whole = reader.list(from, 0, MOST_OPEN, Group::Whole, &mut nowhere)?;
     let nodes = whole.next;
     if nodes > MOST_NODES {
         return Err(Refusal::Nodes);
@@ -71,7 +63,7 @@ pub fn read(text: &[u8], table: &mut [u8]) -> Answer
     if table.len() < NODE_BYTES * nodes {
         return Err(Refusal::Room);
     }
-    list(text, from, 0, MOST_OPEN, options, Group::Whole, table)?;
+    reader.list(from, 0, MOST_OPEN, Group::Whole, table)?;
     Ok(Accepted {
         first: options,
         second: nodes as u32,

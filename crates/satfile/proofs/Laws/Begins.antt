@@ -6,12 +6,12 @@ use mathlib.Core.List.{List}
 use Rattle.std.specs.Prelude.{Result, Ok, Err}
 use Prim.Native.Nat.{ℕ, zero, suc, ◌+◌, ◌-◌, ◌<◌}
 use native.Mathlib.Omega.{arith}
-use lib.ListN.{drop}
 use Rattle.satfile.specs.Trees.{Tree, size_of, records_from}
 use Rattle.satfile.specs.Inner.Reads.{Out, Read, Bad, and_then, Leaf, Open, leaf_of, begin_in, begin_then, group_in, formula_in, list_in}
 use Rattle.satfile.specs.Inner.Stores.{Adds}
-use Rattle.satfile.specs.Inner.Parts.{ReadTo, OpenTo, leaf_nodes, DoneTo, Tells}
+use Rattle.satfile.specs.Inner.Parts.{text_from, ReadTo, OpenTo, leaf_nodes, DoneTo, Tells}
 use Rattle.satfile.specs.declared.lead.Group.{Group}
+use Rattle.satfile.specs.declared.lead.Reader.{Reader}
 use Rattle.satfile.specs.declared.nested.Part.{Part}
 use Rattle.satfile.specs.declared.lead.Wrong.{Wrong}
 
@@ -39,14 +39,14 @@ formula-open v d l r g h e =
     go x q = ap (and_then (begin_then (group_in (formula_in v x)))) q
 
 -- a symbol is a formula, and its nodes are no more than its bytes
-module _ (v d : ℕ) (text : List ℕ) (from n : ℕ) (negated : Bool) {at : ℕ}
-    (t : ReadTo text (begin_in v d (drop from text)) (Leaf n negated) (from + leaf_nodes negated) at) where
+module _ (x : Reader) (d from n : ℕ) (negated : Bool) {at : ℕ}
+    (t : ReadTo x (begin_in x.options d (text_from x from)) (Leaf n negated) (from + leaf_nodes negated) at) where
   pub leaf_done : {before after : List ℕ} {i next : ℕ} → Adds (records_from i (leaf_of n negated)) (leaf_nodes negated) before i next after
-      → DoneTo text before from i (formula_in v d (drop from text)) at next after
+      → DoneTo x before from i (formula_in x.options d (text_from x from)) at next after
   leaf_done {before} {after} {i} {next} a = record {
     tree = leaf_of n negated;
     to = record {
-      out = formula-leaf v d (drop from text) n negated (drop at text) t.out;
+      out = formula-leaf x.options d (text_from x from) n negated (text_from x at) t.out;
       onward = omega (arith, t.onward);
       within = t.within;
     };
@@ -59,22 +59,16 @@ module _ (v d : ℕ) (text : List ℕ) (from n : ℕ) (negated : Bool) {at : ℕ
       size true = refl
 
 -- a group that is opened is the formula
-module _ (v d : ℕ) (text : List ℕ) (from at : ℕ) (g : Group) (t : OpenTo text (begin_in v d (drop from text)) g from at d) where
-  pub open_told : (before after : List ℕ) (i : ℕ) (r : Result Part Wrong) → Tells text before at i (list_in v (d - 1) g (drop at text)) r after
-      → Tells text before from i (formula_in v d (drop from text)) r after
-  open_told before after i (Ok p) x = record {
-    tree = x.tree;
-    to = record { out = same ∙ x.to.out; onward = omega (arith, t.to.onward, x.to.onward); within = x.to.within };
-    few = omega (arith, t.to.onward, x.few);
-    adds = x.adds;
+module _ (x : Reader) (d from at : ℕ) (g : Group) (t : OpenTo x (begin_in x.options d (text_from x from)) g from at d) where
+  same : formula_in x.options d (text_from x from) ≡ list_in x.options (d - 1) g (text_from x at)
+  same = formula-open x.options d (text_from x from) (text_from x at) g t.deep t.to.out
+
+  pub open_told : (before after : List ℕ) (i : ℕ) (r : Result Part Wrong) → Tells x before at i (list_in x.options (d - 1) g) r after
+      → Tells x before from i (formula_in x.options d) r after
+  open_told before after i (Ok p) y = record {
+    tree = y.tree;
+    to = record { out = same ∙ y.to.out; onward = omega (arith, t.to.onward, y.to.onward); within = y.to.within };
+    few = omega (arith, t.to.onward, y.few);
+    adds = y.adds;
   }
-    where
-      same : formula_in v d (drop from text) ≡ list_in v (d - 1) g (drop at text)
-      same = formula-open v d (drop from text) (drop at text) g t.deep t.to.out
-  open_told before after i (Err w) x = record {
-    at = record {
-      out = formula-open v d (drop from text) (drop at text) g t.deep t.to.out ∙ x.at.out;
-      within = x.at.within;
-    };
-    same = x.same;
-  }
+  open_told before after i (Err w) y = record { at = record { out = same ∙ y.at.out; within = y.at.within }; same = y.same }

@@ -20,6 +20,7 @@ use Rattle.satfile.specs.Texts.{sat}
 use Rattle.satfile.specs.Inner.Reads.{Out, whole_in}
 use Rattle.satfile.specs.Inner.Parts.{DoneTo}
 use Rattle.satfile.specs.Inner.Calls.{body_call, read_call}
+use Rattle.satfile.specs.declared.lead.Reader.{Reader}
 use Rattle.satfile.specs.Calls.{tree_call}
 use Rattle.satfile.proofs.Laws.Records.{length_records}
 use Rattle.satfile.proofs.Laws.Rests.{taken, left}
@@ -39,7 +40,7 @@ module _ (text buffer : List ℕ) (h : Head) (e : h ≡ head_of sat text) where
         ap (λ (x : Head). body_call text x.value (whole_in x.value (drop x.place text)) buffer) e
         ∙ sym (taken _ _ _ (ap (λ (x : Head). is_done x.phase) (sym e) ∙ d))
 
-    module _ {before after : List ℕ} {at nodes : ℕ} (x : DoneTo text before h.place 0 out at nodes after) where
+    module _ {reader : Reader} {before after : List ℕ} {at nodes : ℕ} (x : DoneTo reader before h.place 0 out at nodes after) where
       by_tree : tree_call h.value x.tree buffer ≡ read_call text buffer
       by_tree = sym (ap (λ (o : Out Tree). body_call text h.value o buffer) x.to.out) ∙ by_body
 

@@ -7,7 +7,6 @@ use Rattle.header.specs.declared.Form.{Form}
 use Rattle.header.specs.declared.Head.{Head}
 use Rattle.header.proofs.Laws.Steps.{head_within}
 use Rattle.satfile.specs.Texts.{sat}
-use Rattle.satfile.specs.Inner.Parts.{Readable}
 use Rattle.satfile.proofs.Laws.Calls.{call_short}
 use Rattle.satfile.proofs.read.Goals as goal
 use Rattle.satfile.proofs.read.Goals.{After-read-head}
@@ -19,14 +18,12 @@ lettered f e = subst⁻¹ Lettered e (record { first = refl; second = refl; thir
 head : (c : After-read-head) → c.read-head.result ≡ head_of sat c.args.text.now
 head c = c.read-head.ensures ∙ ap (λ f. head_of f c.args.text.now) c.sat_form.ensures
 
-readable : (c : After-read-head) → Readable c.args.text.now c.read-head.result.place 0
-readable c = record {
-  within = omega (arith, ap (λ (h : Head). h.place) (head c), head_within sat c.args.text.now);
+pub list-requires : goal.list-requires
+list-requires c = record {
+  within =
+      omega (arith, ap (λ (h : Head). h.place) (head (goal.at.list-requires c).After-read-head), head_within sat c.args.text.now);
   few = omega arith;
 }
-
-pub list-requires : goal.list-requires
-list-requires c = readable (goal.at.list-requires c).After-read-head
 
 pub returns-then-table-nodes : goal.returns-then-table-nodes
 returns-then-table-nodes c =

@@ -1,35 +1,36 @@
--- `satfile::nested::formula` and `satfile::nested::list` meet their contracts: a formula is a symbol or a group; a group goes on, takes a
--- member and has read it, or it ends and has its members. Assumes nothing.
-use Rattle.std.proofs.Common.{◌≡◌, refl, sym, ap, ◌∙◌, true, false, ℕ, drop, arith}
+-- `satfile::lead::Reader::formula` and `satfile::lead::Reader::list` meet their contracts: a formula is a symbol or a group; a group
+-- goes on, takes a member and has read it, or it ends and has its members. Assumes nothing.
+use Rattle.std.proofs.Common.{◌≡◌, refl, sym, ap, ◌∙◌, true, false, ℕ, arith}
 use Rattle.std.specs.Prelude.{Ok}
 use Rattle.std.proofs.lemmas.Result.{err_from_is_err_and}
 use Rattle.satfile.specs.Inner.Reads.{takes, ends_at, formula_in}
-use Rattle.satfile.specs.Inner.Parts.{DoneTo, WrongTo}
+use Rattle.satfile.specs.Inner.Parts.{text_from, DoneTo, WrongTo}
 use Rattle.satfile.proofs.Laws.Tells.{begin-leaf, begin-open, begin-wrong, told_done, told-wrong}
 use Rattle.satfile.proofs.Laws.Begins.{leaf_done, open_told, formula-wrong}
 use Rattle.satfile.proofs.Laws.Turns.{group_start, takes_by, full_by, group_over, group_lacks, group_wrong, group_unparted}
 use Rattle.satfile.proofs.Laws.Turns.{group_next, ahead, group_done}
-use Rattle.satfile.proofs.nested.+formula_list.Goals as goal
-use Rattle.satfile.proofs.nested.+formula_list.Goals.{list-After-is_open, list-Else-not-is_open, list-Else-not-is_full, list-In_ok-member}
+use Rattle.satfile.proofs.lead.Reader.+formula_list.Goals as goal
+use Rattle.satfile.proofs.lead.Reader.+formula_list.Goals.{list-After-is_open, list-Else-not-is_open, list-Else-not-is_full, list-In_ok-member}
 
 pub formula-returns-in-Symbol : goal.formula-returns-in-Symbol
 formula-returns-in-Symbol t c =
     let a = c.args in
-    let read = begin-leaf a.text.now a.at a.depth _ _ c.begin.ensures _ _ _ (c.in_ok-value.was ∙ ap Ok c.in-Symbol.is) in
-    leaf_done a.options a.depth a.text.now a.at _ _ read c.leaf.ensures
+    let read = begin-leaf a.self.now a.at a.depth _ c.begin.ensures _ _ _ (c.in_ok-value.was ∙ ap Ok c.in-Symbol.is) in
+    leaf_done a.self.now a.depth a.at _ _ read c.leaf.ensures
 
 pub formula-returns-in-Open : goal.formula-returns-in-Open
 formula-returns-in-Open t c =
     let a = c.args in
-    let read = begin-open a.text.now a.at a.depth _ _ c.begin.ensures _ _ (c.in_ok-value.was ∙ ap Ok c.in-Open.is) in
-    open_told a.options a.depth a.text.now a.at _ _ read a.table.now _ a.next c.list.result c.list.ensures
+    let read = begin-open a.self.now a.at a.depth _ c.begin.ensures _ _ (c.in_ok-value.was ∙ ap Ok c.in-Open.is) in
+    open_told a.self.now a.depth a.at _ _ read a.table.now _ a.next c.list.result c.list.ensures
 
 pub formula-returns-in_err-value : goal.formula-returns-in_err-value
 formula-returns-in_err-value t c =
     let a = c.args in
-    let wrong = begin-wrong a.text.now a.at a.depth _ _ c.begin.ensures _ c.in_err-value.was in
-    let told : WrongTo a.text.now a.table.now (formula_in a.options a.depth (drop a.at a.text.now)) _ a.table.now = record {
-      at = record { out = formula-wrong a.options a.depth (drop a.at a.text.now) _ wrong.out; within = wrong.within };
+    let reader = a.self.now in
+    let wrong = begin-wrong reader a.at a.depth _ c.begin.ensures _ c.in_err-value.was in
+    let told : WrongTo reader a.table.now (formula_in reader.options a.depth (text_from reader a.at)) _ a.table.now = record {
+      at = record { out = formula-wrong reader.options a.depth (text_from reader a.at) _ wrong.out; within = wrong.within };
       same = refl;
     } in
     let p = err_from_is_err_and c.from_residual.result c.from_residual.ensures.1 in
@@ -45,7 +46,7 @@ taking t c = takes_by c.loop-group.invariant c.is_many-many.result c.is_open.res
 takes_one : (t : ℕ) (c : list-Else-not-is_open t) → takes c.args.group c.loop-group.invariant.part ≡ true
 takes_one t c = sym (taking t (goal.at.list-Else-not-is_open t c).After-is_open) ∙ c.if-not-is_open.false
 
-goes_on : (t : ℕ) (c : list-Else-not-is_open t) → ends_at c.args.group (drop c.loop-group.i c.args.text.now) ≡ false
+goes_on : (t : ℕ) (c : list-Else-not-is_open t) → ends_at c.args.group (text_from c.args.self.now c.loop-group.i) ≡ false
 goes_on t c = sym c.is_end.ensures ∙ c.loop-group-test.true
 
 pub list-returns-then-not-is_open : goal.list-returns-then-not-is_open
@@ -56,10 +57,11 @@ list-returns-then-not-is_open t c =
 -- a member
 member-read : (t : ℕ) (c : list-In_ok-member t)
     → let a = c.args in
+    let reader = a.self.now in
     let m = c.in_ok-member.member in
-    DoneTo a.text.now c.loop-group.table c.loop-group.i c.loop-group.behind
-    (formula_in a.options a.depth (drop c.loop-group.i a.text.now)) m.at m.next c.formula.new.table
-member-read t c = told_done c.args.text.now c.loop-group.table c.loop-group.i c.loop-group.behind _ _ _ c.formula.ensures _ c.in_ok-member.was
+    DoneTo reader c.loop-group.table c.loop-group.i c.loop-group.behind
+    (formula_in reader.options a.depth (text_from reader c.loop-group.i)) m.at m.next c.formula.new.table
+member-read t c = told_done c.args.self.now c.args.depth c.loop-group.table c.loop-group.i c.loop-group.behind _ _ c.formula.ensures _ c.in_ok-member.was
 
 pub list-returns-then-not-is_parted : goal.list-returns-then-not-is_parted
 list-returns-then-not-is_parted t c =
@@ -84,7 +86,7 @@ list-loop-group-preserved t c =
 pub list-returns-in_err-member : goal.list-returns-in_err-member
 list-returns-in_err-member t c =
     let else = (goal.at.list-returns-in_err-member t c).Else-not-is_open in
-    let wrong = told-wrong c.args.text.now c.loop-group.table c.loop-group.i c.loop-group.behind _ _ _ c.formula.ensures _ c.in_err-member.was in
+    let wrong = told-wrong c.args.self.now c.args.depth c.loop-group.table c.loop-group.i c.loop-group.behind _ _ c.formula.ensures _ c.in_err-member.was in
     let told = group_wrong c.loop-group.invariant (goes_on t else) (takes_one t else) wrong in
     let p = err_from_is_err_and c.from_residual.result c.from_residual.ensures.1 in
     rw (p.1, p.2) told
