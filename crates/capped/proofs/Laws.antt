@@ -1,3 +1,2 @@
 -- Laws of totals at their ceilings.
-pub mod Constants
 pub mod Stated

@@ -8,10 +8,14 @@ use denote.Triple.Clauses.{AtExit}
 use borrow.Fn.Kinds.{Dens, ended_of, res_t}
 use Rattle.capped.specs.declared.total.ClauseTotal.{ClauseTotal}
 use Rattle.capped.specs.declared.total.LiteralTotal.{LiteralTotal}
+use Rattle.capped.proofs.total.ClauseTotal.zero.Kinds as clause-zero-kinds
+use Rattle.capped.proofs.total.ClauseTotal.zero.Reads as clause-zero
 use Rattle.capped.proofs.total.ClauseTotal.add.Kinds as clause-add-kinds
 use Rattle.capped.proofs.total.ClauseTotal.add.Reads as clause-add
 use Rattle.capped.proofs.total.ClauseTotal.join.Kinds as clause-join-kinds
 use Rattle.capped.proofs.total.ClauseTotal.join.Reads as clause-join
+use Rattle.capped.proofs.total.LiteralTotal.zero.Kinds as literal-zero-kinds
+use Rattle.capped.proofs.total.LiteralTotal.zero.Reads as literal-zero
 use Rattle.capped.proofs.total.LiteralTotal.add.Kinds as literal-add-kinds
 use Rattle.capped.proofs.total.LiteralTotal.add.Reads as literal-add
 use Rattle.capped.proofs.total.LiteralTotal.join.Kinds as literal-join-kinds
@@ -33,6 +37,12 @@ clause_total n = record { n = n }
 literal_total : ℕ → LiteralTotal
 literal_total n = record { n = n }
 
+pub clause-zero-settled : (κs : Lfts 0) (a : Dens κs clause-zero-kinds.ps) (r q : (res_t clause-zero-kinds.r κs).Denot)
+    (s t : AtExit (ended_of 0 clause-zero-kinds.ps clause-zero-kinds.r) κs)
+    → clause-zero.Post κs a r s → clause-zero.Post κs a q t → r ≡ q
+unfolding clause_total
+clause-zero-settled κs a r q s t e f = ap clause_total (e ∙ sym f)
+
 pub clause-add-settled : (κs : Lfts 0) (a : Dens κs clause-add-kinds.ps) (r q : (res_t clause-add-kinds.r κs).Denot)
     (s t : AtExit (ended_of 0 clause-add-kinds.ps clause-add-kinds.r) κs)
     → clause-add.Post κs a r s → clause-add.Post κs a q t → r ≡ q
@@ -44,6 +54,12 @@ pub clause-join-settled : (κs : Lfts 0) (a : Dens κs clause-join-kinds.ps) (r 
     → clause-join.Post κs a r s → clause-join.Post κs a q t → r ≡ q
 unfolding clause_total
 clause-join-settled κs a r q s t e f = ap clause_total (e ∙ sym f)
+
+pub literal-zero-settled : (κs : Lfts 0) (a : Dens κs literal-zero-kinds.ps) (r q : (res_t literal-zero-kinds.r κs).Denot)
+    (s t : AtExit (ended_of 0 literal-zero-kinds.ps literal-zero-kinds.r) κs)
+    → literal-zero.Post κs a r s → literal-zero.Post κs a q t → r ≡ q
+unfolding literal_total
+literal-zero-settled κs a r q s t e f = ap literal_total (e ∙ sym f)
 
 pub literal-add-settled : (κs : Lfts 0) (a : Dens κs literal-add-kinds.ps) (r q : (res_t literal-add-kinds.r κs).Denot)
     (s t : AtExit (ended_of 0 literal-add-kinds.ps literal-add-kinds.r) κs)

@@ -27,9 +27,17 @@ pub struct ClauseTotal {
 impl ClauseTotal {
     pub const CEILING: u16 = 65_535;
 
-    pub const ZERO: Self = Self { n: 0 };
+    pub fn zero() -> Self
+        ensures { result.n ≡ 0 }
+    {
+        Self { n: 0 }
+    }
 
-    const ONE: Self = Self { n: 1 };
+    fn one() -> Self
+        ensures { result.n ≡ 1 }
+    {
+        Self { n: 1 }
+    }
 
     // A number of clauses, read at the ceiling.
     fn read(number: u64) -> Self
@@ -64,9 +72,17 @@ pub struct LiteralTotal {
 impl LiteralTotal {
     pub const CEILING: u32 = 1_000_000;
 
-    pub const ZERO: Self = Self { n: 0 };
+    pub fn zero() -> Self
+        ensures { result.n ≡ 0 }
+    {
+        Self { n: 0 }
+    }
 
-    const ONE: Self = Self { n: 1 };
+    fn one() -> Self
+        ensures { result.n ≡ 1 }
+    {
+        Self { n: 1 }
+    }
 
     // What is shown where the total is not stated.
     const FULL: Self = Self { n: Self::CEILING };
@@ -128,8 +144,8 @@ impl Total {
         ensures { result ≡ as_total capped.none }
     {
         Self {
-            clauses: ClauseTotal::ZERO,
-            literals: LiteralTotal::ZERO,
+            clauses: ClauseTotal::zero(),
+            literals: LiteralTotal::zero(),
         }
     }
 
@@ -138,8 +154,8 @@ impl Total {
         ensures { result ≡ as_total capped.empty }
     {
         Self {
-            clauses: ClauseTotal::ONE,
-            literals: LiteralTotal::ZERO,
+            clauses: ClauseTotal::one(),
+            literals: LiteralTotal::zero(),
         }
     }
 
@@ -148,8 +164,8 @@ impl Total {
         ensures { result ≡ record { clauses = record { n = 1 }; literals = record { n = 1 } } }
     {
         Self {
-            clauses: ClauseTotal::ONE,
-            literals: LiteralTotal::ONE,
+            clauses: ClauseTotal::one(),
+            literals: LiteralTotal::one(),
         }
     }
 

@@ -8,6 +8,8 @@ use Rattle.answer.specs.Answers.{Wrote}
 use contract.Lifetimes.{Lfts}
 use denote.Triple.Clauses.{AtExit}
 use borrow.Fn.Kinds.{Dens, ended_of, res_t}
+use Rattle.choose.proofs.bytes.clear.Kinds as clear-kinds
+use Rattle.choose.proofs.bytes.clear.Reads as clear
 use Rattle.choose.proofs.bytes.put_all.Kinds as put-all-kinds
 use Rattle.choose.proofs.bytes.put_all.Reads as put_all_lem
 use Rattle.choose.proofs.bytes.count_all.Kinds as count-all-kinds
@@ -20,6 +22,11 @@ pub choose-settled : (κs : Lfts 2) (a : Dens κs choose-kinds.ps) (r q : (res_t
     → choose.Post κs a r s → choose.Post κs a q t → (r ≡ q) × (s.1.1.1.0.now ≡ t.1.1.1.0.now)
 choose-settled κs a r q s t e f = let same = e ∙ sym f in
     (ap (λ (w : Wrote (List ℕ)). w.answer) same, ap (λ (w : Wrote (List ℕ)). w.output) same)
+
+pub clear-settled : (κs : Lfts 1) (a : Dens κs clear-kinds.ps) (r q : (res_t clear-kinds.r κs).Denot)
+    (s t : AtExit (ended_of 1 clear-kinds.ps clear-kinds.r) κs)
+    → clear.Post κs a r s → clear.Post κs a q t → s.0.now ≡ t.0.now
+clear-settled κs a r q s t e f = e ∙ sym f
 
 pub put-all-settled : (κs : Lfts 3) (a : Dens κs put-all-kinds.ps) (r q : (res_t put-all-kinds.r κs).Denot)
     (s t : AtExit (ended_of 3 put-all-kinds.ps put-all-kinds.r) κs)

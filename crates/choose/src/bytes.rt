@@ -1,5 +1,5 @@
-// The bytes of a whole set: every node that may be renamed.
-ghost use Rattle.std.specs.Prelude.{◌≡◌};
+// The bytes of a whole set: no node, or every node that may be renamed.
+ghost use Rattle.std.specs.Prelude.{◌≡◌, length, replicate};
 ghost use Rattle.clausal.specs.Choosing.{all_of, everything};
 ghost use Rattle.choose.specs.Inner.Visits.{Settable};
 ghost use Rattle.formula.specs.Tables.{nodes_of};
@@ -8,6 +8,13 @@ ghost use Rattle.marks.specs.Inner.Held.{Marked};
 use formula::node::NODE_BYTES;
 use marks::mark::Marks;
 use marks::set::may_rename;
+
+// Takes every node out of a set.
+pub fn clear(set: &mut [u8])
+    ensures { set.new ≡ replicate (length set.old) 0 }
+{
+    set.fill(0);
+}
 
 // Puts exactly the nodes that may be renamed into a set.
 pub fn put_all(table: &[u8], marks: &Marks, set: &mut [u8])

@@ -8,7 +8,7 @@ ghost use Rattle.clausal.specs.Calls.{told, chosen_under, chosen_by};
 ghost use Rattle.choose.specs.Inner.Visits.{byte_of, byte_before, lowest, kept_by, small, is_tried, pass_of, Choosable, Passable, Visitable};
 ghost use Rattle.choose.specs.Inner.Visits.{Triable, Attempted, Visited};
 
-use crate::bytes::{count_all, put_all};
+use crate::bytes::{clear, count_all, put_all};
 use answer::{Accepted, Answer, Refusal};
 use capped::total::ClauseTotal;
 use formula::node::{MOST_NODES, NODE_BYTES};
@@ -202,7 +202,7 @@ fn choose_under(table: &[u8], allowance: u32, set: &mut [u8]) -> Answer
     if set.len() != count {
         return Err(Refusal::Set { node: count as u32 });
     }
-    set.fill(0);
+    clear(set);
     let mut marks = [0; MOST_NODES];
     mark_all(table, &mut marks);
     let picked = choose_marked(table, &marks, allowance, set);

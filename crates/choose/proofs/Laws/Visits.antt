@@ -94,6 +94,24 @@ pub visited-by : (w : Way) (ns : List Node) (i : ℕ) (c after : Choice) (cs : L
     → is_tried w ns i c.picks cs ≡ true → Attempted w ns i c after next ds ms → Visited w ns i c after next ds ms
 visited-by w ns i c after cs next ds ms e a = record { choice = a.choice ∙ attempt-rule w ns i c cs e; stands = a.stands }
 
+-- a node whose P and N have at most one clause each stays out
+pub too_small : (allowance : ℕ) (ns : List Node) (i : ℕ) (c : Choice) (sum : ℕ) (cs ls : List (List ℕ))
+    → Standing (Adds allowance) ns (i + 1) c sum cs ls → ((j : ℕ) → Below j (node_in ns j)) → i < length ns
+    → (ltb (cell cs 0 i) 2 && ltb (cell cs 1 i) 2) ≡ true → Visited (Adds allowance) ns i c c sum cs ls
+too_small allowance ns i c sum cs ls stands below inside e =
+    skipped (Adds allowance) ns i c sum cs ls stands below inside (go (ltb c.picks allowance) (may_rename ns i) (small cs i) e)
+  where
+    go : (room may few : Bool) → few ≡ true → (room && (may && not few)) ≡ false
+    go false may few f = refl
+    go true false few f = refl
+    go true true true f = refl
+    go true true false f = cc
+
+-- an attempt to take a node out is its visit, where the node may be renamed
+pub attempted_out : (ns : List Node) (i : ℕ) (c after : Choice) (next : ℕ) (ds ms : List (List ℕ)) → may_rename ns i ≡ true
+    → Attempted Drops ns i c after next ds ms → Visited Drops ns i c after next ds ms
+attempted_out ns i c after next ds ms may a = record { choice = a.choice ∙ rw may refl; stands = a.stands }
+
 -- a node that is tried, in either pass
 module _ (w : Way) (ns : List Node) (i picks : ℕ) (s : List ℕ) (sum : ℕ) (cs ls : List (List ℕ))
     (stands : Standing w ns (i + 1) (record { picks = picks; chosen = s }) sum cs ls) where

@@ -15,7 +15,7 @@ returns-then-set-count c =
 pub choose_marked-picked-requires : goal.choose_marked-picked-requires
 choose_marked-picked-requires c =
     let t = c.args.table.now in
-    let empty = c.fill.ensures.after (λ y e. e) ∙ ap (λ (k : ℕ). replicate k 0) (c.if-set-count.false ∙ sym (length-nodes_of t)) in
+    let empty = c.clear.ensures ∙ ap (λ (k : ℕ). replicate k 0) (c.if-set-count.false ∙ sym (length-nodes_of t)) in
     record {
       marked = record { size = c.requires.size; are = c.mark_all.ensures };
       below = c.requires.below;
