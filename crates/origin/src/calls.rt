@@ -2,18 +2,19 @@
 ghost use Rattle.std.specs.Prelude.{◌≡◌};
 ghost use Rattle.answer.specs.Answers.{accepted_with, stored};
 ghost use Rattle.formula.specs.Tables.{nodes_of};
+ghost use Rattle.names.specs.Inner.Notes.{Known};
 ghost use Rattle.clausal.specs.Clauses.{renaming};
 ghost use Rattle.origin.specs.Calls.{origin_call, origins_call};
-ghost use Rattle.origin.specs.Inner.Lines.{lists_of, Known, Tellable};
+ghost use Rattle.origin.specs.Inner.Lines.{lists_of, Tellable};
 ghost use Rattle.origin.specs.Inner.Shown.{spanned, lines_between, named_with, Listed, Showable, shown_under};
 
 use crate::line::{Span, put_lines};
-use crate::voices::Voices;
 use answer::{Accepted, Answer, Refusal};
 use convert::convert::below;
 use formula::node::MOST_NODES;
 use marks::mark::Marks;
-use names::list::{is_right, note};
+use names::list::is_right;
+use names::lookup::Voices;
 use parts::helper::name_all;
 use totals::prepare::prepare;
 use totals::rows::Columns;
@@ -60,11 +61,11 @@ fn name_lines(
         (lines_between (lists_of voices.old) (renaming voices.old.options set.now) (nodes_of nodes.now.table.now) span) out.old }
 {
     let options = voices.options as usize;
-    if !is_right(voices.option_names, options) || !is_right(voices.helper_names, count) {
+    if !is_right(voices.option_names.list, options) || !is_right(voices.helper_names.list, count) {
         return Err(Refusal::Names);
     }
-    note(voices.option_names, options, &mut voices.option_notes);
-    note(voices.helper_names, count, &mut voices.helper_notes);
+    voices.option_names.note(options);
+    voices.helper_names.note(count);
     write_lines(nodes, marks, set, voices, span, out)
 }
 

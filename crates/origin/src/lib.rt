@@ -6,4 +6,3 @@ mod line;
 mod literal;
 mod part;
 mod pen;
-mod voices;

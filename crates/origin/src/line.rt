@@ -1,6 +1,7 @@
 // The line of a clause: where it comes from, and the names of its literals.
 ghost use Rattle.std.specs.Prelude.{cond, true, [], ◌∷◌, ◌≡◌, ◌-◌, ◌<◌};
 ghost use Rattle.formula.specs.Tables.{nodes_of};
+ghost use Rattle.names.specs.Inner.Notes.{Known};
 ghost use Rattle.clausal.specs.Clauses.{renaming};
 ghost use Rattle.walk.specs.Inner.Lists.{names_in, own_clause};
 ghost use Rattle.parts.specs.Inner.Parts.{helper_literal};
@@ -8,16 +9,15 @@ ghost use Rattle.origin.specs.Inner.Spots.{direction_of};
 ghost use Rattle.origin.specs.Origins.{direction_word};
 ghost use Rattle.origin.specs.Inner.Grounds.{spot_clause, spot_line};
 ghost use Rattle.origin.specs.Inner.Lines.{lists_of, named, field_text, source_text, literals_text, lines_from};
-ghost use Rattle.origin.specs.Inner.Lines.{Known, Voiced, Spoken, Spotted, Tellable};
+ghost use Rattle.origin.specs.Inner.Lines.{Voiced, Spoken, Spotted, Tellable};
 ghost use Rattle.origin.specs.Inner.Pens.{Standing, Drawn};
 ghost use Rattle.origin.specs.Inner.Ways.{as_literal, Startable};
 
 use crate::literal::{Literal, Ways, first, next};
 use crate::part::{Direction, Spot, find};
 use crate::pen::{Pen, put, put_decimal};
-use crate::voices::Voices;
 use marks::mark::Marks;
-use names::lookup::lookup;
+use names::lookup::Voices;
 use walk::nodes::Nodes;
 use walk::step::Way;
 
@@ -81,14 +81,7 @@ fn put_literal(voices: &mut Voices, literal: Literal, out: &mut [u8], pen: Pen) 
     ensures { Spoken (literals_text (named (lists_of voices.old)) (as_literal literal ∷ [])) (lists_of voices.old) out.old pen
         voices.new out.new result }
 {
-    let name = lookup(
-        voices.option_names,
-        voices.helper_names,
-        &mut voices.option_notes,
-        &mut voices.helper_notes,
-        voices.options as usize,
-        literal.variable as usize,
-    );
+    let name = voices.lookup(literal.variable);
     let sign = put_sign(out, pen, literal.plain);
     put(out, sign, name)
 }

@@ -13,9 +13,10 @@ use Rattle.laws.specs.Inner.Stores.{pad_to}
 use Rattle.laws.proofs.Arrays.{get_d_pad, length_pad}
 use Rattle.laws.proofs.Upward.{length-up_to, get_d_up_to, pad_up_to}
 use Rattle.names.specs.Names.{name_in}
-use Rattle.names.specs.Inner.Notes.{lengths, place_of, no_notes, notes_of, found_in, options_found, helpers_found}
-use Rattle.names.specs.declared.list.Notes.{Notes}
-use Rattle.names.specs.Inner.Notes.{Notable, Noted, Within, Findable, Looked}
+use Rattle.names.specs.Inner.Notes.{lengths, place_of, no_notes, notes_of, found_in, looked_up}
+use Rattle.names.specs.Inner.Notes.{Notable, Noted, Within, Known, Findable, Looked}
+use Rattle.names.specs.declared.list.Names.{Names}
+use Rattle.names.specs.declared.lookup.Voices.{Voices}
 use Rattle.names.proofs.Laws.Places.{Reached, reached-start, reached-place}
 
 -- where each 32nd name begins
@@ -23,15 +24,15 @@ abbrev block_of : List ℕ → List ℕ → ℕ → ℕ
 block_of list before j = place_of list (32 * j)
 
 -- the first k blocks are noted
-abbrev noted_up_to : List ℕ → ℕ → Notes
-noted_up_to list k = record { begins = pad_to 1_022 0 (up_to (block_of list) k); last = 0; at = 0 }
+abbrev blocks_to : Names → ℕ → Names
+blocks_to x k = record { list = x.list; begins = pad_to 1_022 0 (up_to (block_of x.list.now) k); last = 0; at = 0 }
 
 -- the first notes
-pub noted-first : {list : List ℕ} {n : ℕ} {notes : Notes} → Notable list n notes → Noted list n (notes_of list n)
+pub noted-first : {x : Names} {n : ℕ} → Notable x n → Noted (notes_of x n) n
 unfolding lengths
-noted-first {list} {n} h =
+noted-first {x} {n} h =
     let k = n / 32 + 1 in
-    let f = block_of list in
+    let f = block_of x.list.now in
     let few : n / 32 ≤ 1_000 = omega (arith, h.few) in
     record {
       right = h.right;
@@ -43,93 +44,95 @@ noted-first {list} {n} h =
     }
 
 -- a name was found
-pub noted-found : {list : List ℕ} {n : ℕ} {notes : Notes} → Noted list n notes → (j : ℕ) → j < n
-    → Noted list n (found_in list notes j)
+pub noted-found : {x : Names} {n : ℕ} → Noted x n → (j : ℕ) → j < n → Noted (found_in x j) n
 noted-found h j l = record { right = h.right; few = h.few; size = h.size; blocks = h.blocks; number = omega arith; place = refl }
 
--- one of both lists was looked into, and the notes of the other are as they were
-module _ {option_list helper_list : List ℕ} {option_notes helper_notes : Notes} {v n : ℕ}
-    (f : Findable option_list helper_list option_notes helper_notes v n) where
-  pub noted-options : Noted option_list v (options_found option_list option_notes v n)
-  noted-options = go (leb n v) refl
-    where
-      go : (b : Bool) → leb n v ≡ b → Noted option_list v (cond b (found_in option_list option_notes (n - 1)) option_notes)
-      go true e = let h = leb-true n v e in noted-found f.options (n - 1) (omega (arith, f.some))
-      go false e = f.options
+-- what holds after a name was found in either list holds after a lookup
+pub looked_either : {x : Voices} {n : ℕ} (P : Voices → Type 0)
+    → (n ≤ x.options → P (record x { option_names = found_in x.option_names (n - 1) }))
+    → (x.options < n → P (record x { helper_names = found_in x.helper_names (n - x.options - 1) })) → P (looked_up x n)
+looked_either {x} {n} P f g = go (leb n x.options) refl
+  where
+    go : (b : Bool) → leb n x.options ≡ b
+        → P (cond b (record x { option_names = found_in x.option_names (n - 1) })
+        (record x { helper_names = found_in x.helper_names (n - x.options - 1) }))
+    go true e = f (leb-true n x.options e)
+    go false e = g (leb-false n x.options e)
 
-  pub noted-helpers : Noted helper_list f.count (helpers_found helper_list helper_notes v n)
-  noted-helpers = go (leb n v) refl
-    where
-      go : (b : Bool) → leb n v ≡ b
-          → Noted helper_list f.count (cond b helper_notes (found_in helper_list helper_notes (n - v - 1)))
-      go true e = f.helpers
-      go false e = let h = leb-false n v e in noted-found f.helpers (n - v - 1) (omega (arith, f.most))
+-- one of both lists was looked into, and both still have their notes
+pub known_looked : {x : Voices} {n : ℕ} → Findable x n → Known (looked_up x n)
+known_looked {x} {n} f =
+    looked_either Known
+    (λ h. record { options = noted-found f.known.options (n - 1) (omega (arith, f.some)); helpers = f.known.helpers })
+    (λ h. record {
+      options = f.known.options;
+      helpers = noted-found f.known.helpers (n - x.options - 1) (omega (arith, f.most));
+    })
 
 -- what was looked up, from the list of the options ..
-module _ (option_list helper_list : List ℕ) (option_notes helper_notes : Notes) (v n : ℕ) {found : List ℕ} {after : Notes} where
-  pub looked_option : n ≤ v → (found ≡ name_in option_list (n - 1)) × (after ≡ found_in option_list option_notes (n - 1))
-      → Looked option_list helper_list option_notes helper_notes v n found after helper_notes
+module _ (x : Voices) (n : ℕ) {found : List ℕ} {after : Names} where
+  pub looked_option : n ≤ x.options → (found ≡ name_in x.option_names.list.now (n - 1)) × (after ≡ found_in x.option_names (n - 1))
+      → Looked x n found (record x { option_names = after })
   looked_option h e =
-      let b = le-leb n v h in
-      record { name = rw b e.0; options = rw b e.1; helpers = rw b }
+      let b = le-leb n x.options h in
+      record { name = rw b e.0; notes = rw b (ap (λ (z : Names). record x { option_names = z }) e.1) }
 
   -- .. and from that of the helpers
-  pub looked_helper : v < n → (found ≡ name_in helper_list (n - v - 1)) × (after ≡ found_in helper_list helper_notes (n - v - 1))
-      → Looked option_list helper_list option_notes helper_notes v n found option_notes after
+  pub looked_helper : x.options < n
+      → (found ≡ name_in x.helper_names.list.now (n - x.options - 1)) × (after ≡ found_in x.helper_names (n - x.options - 1))
+      → Looked x n found (record x { helper_names = after })
   looked_helper h e =
-      let b = lt-leb n v h in
-      record { name = rw b e.0; options = rw b; helpers = rw b e.1 }
+      let b = lt-leb n x.options h in
+      record { name = rw b e.0; notes = rw b (ap (λ (z : Names). record x { helper_names = z }) e.1) }
 
 -- a name that is noted: a reader that looks for name j may begin there
-module _ {list : List ℕ} {notes : Notes} {j : ℕ} (w : Within list notes j) {i at : ℕ} where
-  reached-noted : {k p : ℕ} → k ≤ j → p ≡ place_of list k → i ≡ k → at ≡ p → Reached list i at
+module _ {x : Names} {j : ℕ} (w : Within x j) {i at : ℕ} where
+  reached-noted : {k p : ℕ} → k ≤ j → p ≡ place_of x.list.now k → i ≡ k → at ≡ p → Reached x.list.now i at
   reached-noted {k} h e f g =
       let r = reached-place w.count w.noted.right k (omega (arith, w.below)) in
-      subst (λ (m : ℕ). Reached list m at) (sym f) (subst (λ (m : ℕ). Reached list k m) (sym (g ∙ e)) r)
+      subst (λ (m : ℕ). Reached x.list.now m at) (sym f) (subst (λ (m : ℕ). Reached x.list.now k m) (sym (g ∙ e)) r)
 
   -- the last 32nd one
-  pub reached_block : i ≡ j - j % 32 → at ≡ get_or notes.begins (j / 32) 0 → Reached list i at
+  pub reached_block : i ≡ j - j % 32 → at ≡ get_or x.begins (j / 32) 0 → Reached x.list.now i at
   reached_block e f =
       let h : 32 * (j / 32) ≤ j = omega arith in
       let g : i ≡ 32 * (j / 32) = omega arith in
       reached-noted h (w.noted.blocks (j / 32) (omega (arith, w.below))) g f
 
   -- the last one that was found
-  pub reached-last : notes.last ≤ j → i ≡ notes.last → at ≡ notes.at → Reached list i at
+  pub reached-last : x.last ≤ j → i ≡ x.last → at ≡ x.at → Reached x.list.now i at
   reached-last h e f = reached-noted h w.noted.place e f
 
 -- .. or at name j itself, once it is known where it begins
-pub reached-found : {list : List ℕ} {notes : Notes} {j at : ℕ} → Within list notes j → at ≡ place_of list j → Reached list j at
+pub reached-found : {x : Names} {j at : ℕ} → Within x j → at ≡ place_of x.list.now j → Reached x.list.now j at
 reached-found w e = reached-noted w (omega arith) refl refl e
 
 -- a reader that notes where each 32nd name begins: it has come to name i
-pub record Noting (list : List ℕ) (n : ℕ) (notes : Notes) (at i : ℕ) : Type 0 where
+pub record Noting (x : Names) (n : ℕ) (y : Names) (at i : ℕ) : Type 0 where
   pub up_to : i ≤ n
-  pub reached : Reached list i at
-  pub noted : notes ≡ notes_of list i
+  pub reached : Reached x.list.now i at
+  pub noted : y ≡ notes_of x i
 
-pub noting_start : {list : List ℕ} {n : ℕ} {notes : Notes} → Notable list n notes → Noting list n notes 0 0
+pub noting_start : {x : Names} {n : ℕ} → Notable x n → Noting x n x 0 0
 unfolding up_to lengths
-noting_start {list} h = record { up_to = omega arith; reached = reached-start list; noted = h.none ∙ first }
+noting_start {x} h = record { up_to = omega arith; reached = reached-start x.list.now; noted = h.none ∙ first }
   where
-    first : no_notes ≡ notes_of list 0
+    first : no_notes x.list ≡ notes_of x 0
     first = refl
 
-module _ {list : List ℕ} {n : ℕ} {notes : Notes} {at i : ℕ} (h : Noting list n notes at i) (l : i < n) {next : ℕ}
-    (r : Reached list (i + 1) next) where
+module _ {x y : Names} {n at i : ℕ} (h : Noting x n y at i) (l : i < n) {next : ℕ} (r : Reached x.list.now (i + 1) next) where
   -- nothing is noted of a name that is no 32nd one
-  pub noting_pass : ((i + 1) % 32 ≡ 0 → ⊥) → Noting list n notes next (i + 1)
+  pub noting_pass : ((i + 1) % 32 ≡ 0 → ⊥) → Noting x n y next (i + 1)
   noting_pass f =
       let e : i / 32 ≡ (i + 1) / 32 = omega arith in
       record {
         up_to = omega arith;
         reached = r;
-        noted = h.noted ∙ ap (λ (k : ℕ). noted_up_to list (k + 1)) e;
+        noted = h.noted ∙ ap (λ (k : ℕ). blocks_to x (k + 1)) e;
       }
 
   -- a 32nd name
-  pub noting_more : (i + 1) % 32 ≡ 0 → n ≤ 32_000
-      → Noting list n (record { begins = set notes.begins ((i + 1) / 32) next; last = notes.last; at = notes.at }) next (i + 1)
+  pub noting_more : (i + 1) % 32 ≡ 0 → n ≤ 32_000 → Noting x n (record y { begins = set y.begins ((i + 1) / 32) next }) next (i + 1)
   noting_more f few =
       let k = i / 32 + 1 in
       let e : (i + 1) / 32 ≡ i / 32 + 1 = omega arith in
@@ -137,14 +140,13 @@ module _ {list : List ℕ} {n : ℕ} {notes : Notes} {at i : ℕ} (h : Noting li
       record {
         up_to = omega arith;
         reached = r;
-        noted = (λ t. record { begins = set ((h.noted t).begins) (e t) next; last = (h.noted t).last; at = (h.noted t).at })
-            ∙ ap (λ (l : List ℕ). record { begins = l; last = 0; at = 0 })
-            (pad_up_to (block_of list) 0 1_022 k next (omega arith) (r.place ∙ ap (place_of list) (sym g)))
-            ∙ ap (λ (j : ℕ). noted_up_to list (j + 1)) (sym e);
+        noted = (λ t. record (h.noted t) { begins = set ((h.noted t).begins) (e t) next })
+            ∙ ap (λ (l : List ℕ). record (notes_of x 0) { begins = l })
+            (pad_up_to (block_of x.list.now) 0 1_022 k next (omega arith) (r.place ∙ ap (place_of x.list.now) (sym g)))
+            ∙ ap (λ (j : ℕ). blocks_to x (j + 1)) (sym e);
       }
 
-pub noting_end : {list : List ℕ} {n : ℕ} {notes : Notes} {at i : ℕ} → Noting list n notes at i → n ≤ i
-    → notes ≡ notes_of list n
-noting_end {list} {n} {i = i} h l =
+pub noting_end : {x y : Names} {n at i : ℕ} → Noting x n y at i → n ≤ i → y ≡ notes_of x n
+noting_end {x} {n = n} {i = i} h l =
     let e : i ≡ n = omega (arith, h.up_to) in
-    h.noted ∙ ap (notes_of list) e
+    h.noted ∙ ap (notes_of x) e

@@ -11,20 +11,21 @@ use Rattle.laws.specs.Lists.{none, more}
 use Rattle.laws.proofs.Every.{every_left, every_right, every_head, every_tail}
 use Rattle.formula.specs.Tables.{nodes_of}
 use Rattle.formula.specs.declared.node.Node.{Node}
+use Rattle.names.specs.Inner.Notes.{name_count}
+use Rattle.names.specs.declared.lookup.Voices.{Voices}
 use Rattle.clausal.specs.Clauses.{Clause}
 use Rattle.walk.specs.Inner.Lists.{names_in, own_clause}
 use Rattle.walk.specs.Inner.Steps.{way}
 use Rattle.walk.specs.declared.nodes.Nodes.{Nodes}
 use Rattle.parts.specs.Inner.Parts.{helper_literal, around}
 use Rattle.origin.specs.Inner.Grounds.{spot_clause}
-use Rattle.origin.specs.Inner.Lines.{name_count, literals_text, Ranged, Lists, lists_of, named, Voiced, Spoken, Spotted}
+use Rattle.origin.specs.Inner.Lines.{literals_text, Ranged, Lists, lists_of, named, Voiced, Spoken, Spotted}
 use Rattle.origin.specs.Inner.Spots.{sign_of}
 use Rattle.origin.specs.Inner.Ways.{waiting_of, as_literal, Parts, FirstOf}
 use Rattle.origin.specs.declared.literal.Literal.{Literal}
 use Rattle.origin.specs.declared.literal.Ways.{Ways}
 use Rattle.origin.specs.declared.part.Spot.{Spot}
 use Rattle.origin.specs.declared.pen.Pen.{Pen}
-use Rattle.origin.specs.declared.voices.Voices.{Voices}
 use Rattle.origin.proofs.Laws.Spoken.{spoken_nothing, spoken_as, spoken_along, spoken_more, spoken_standing}
 
 -- how many names there are
@@ -32,7 +33,7 @@ abbrev most : Lists → ℕ
 most l = l.options + name_count l.helper_list
 
 -- names of a clause, by lists that stayed the same
-ranged_as : (c : Clause) (x : Voices) {l : Lists} → lists_of x ≡ l → Ranged (most l) c → Ranged (x.options + name_count x.helper_names.now) c
+ranged_as : (c : Clause) (x : Voices) {l : Lists} → lists_of x ≡ l → Ranged (most l) c → Ranged (x.options + name_count x.helper_names.list.now) c
 ranged_as c x e r = subst⁻¹ (λ (m : Lists). Ranged (most m) c) e r
 
 module _ (x : Nodes) where

@@ -14,6 +14,8 @@ use Rattle.marks.specs.Sets.{set_checked}
 use Rattle.formula.specs.declared.node.Node.{Node}
 use Rattle.formula.proofs.Laws.Tables.{length-nodes_of}
 use Rattle.text.specs.Texts.{decimal, joined}
+use Rattle.names.specs.Inner.Notes.{name_count, Known}
+use Rattle.names.specs.declared.lookup.Voices.{Voices}
 use Rattle.clausal.specs.Clauses.{Literal, Clause, Renaming, renaming}
 use Rattle.clausal.specs.Clauses as rules
 use Rattle.clausal.specs.Output.{output_of}
@@ -30,11 +32,10 @@ use Rattle.origin.specs.declared.line.Span.{Span}
 use Rattle.origin.specs.declared.part.Spot.{Spot}
 use Rattle.origin.specs.Origins.{shown_literal, line_of}
 use Rattle.origin.specs.Inner.Grounds.{Ground, spot_clause, spot_line}
-use Rattle.origin.specs.Inner.Lines.{name_count, source_text, literals_text, lines_from, Ranged, Lists, lists_of, named}
-use Rattle.origin.specs.Inner.Lines.{Known, Spoken, Spotted, Tellable}
+use Rattle.origin.specs.Inner.Lines.{source_text, literals_text, lines_from, Ranged, Lists, lists_of, named}
+use Rattle.origin.specs.Inner.Lines.{Spoken, Spotted, Tellable}
 use Rattle.origin.specs.Inner.Pens.{Standing, Drawn}
 use Rattle.origin.specs.declared.pen.Pen.{Pen}
-use Rattle.origin.specs.declared.voices.Voices.{Voices}
 use Rattle.origin.proofs.Laws.Pens.{drawn_as, drawn-both}
 use Rattle.origin.proofs.Laws.Sources.{right, some-nodes, start-end, spot-own, spot-clause, spot-line}
 use Rattle.origin.proofs.Laws.Spoken.{spoken_as, spoken_along, spoken_both, spoken_nothing, spoken_standing}

@@ -25,8 +25,9 @@ use Rattle.formula.proofs.Laws.WellFormed.{checked-accepted}
 use Rattle.marks.specs.Sets.{set_checked}
 use Rattle.text.specs.Texts.{parted}
 use Rattle.names.specs.Names.{newline, right_names}
-use Rattle.names.specs.Inner.Notes.{Noted, Notable, notes_of}
-use Rattle.names.specs.declared.list.Notes.{Notes}
+use Rattle.names.specs.Inner.Notes.{name_count, Noted, Notable, Known, notes_of, unnoted}
+use Rattle.names.specs.declared.list.Names.{Names}
+use Rattle.names.specs.declared.lookup.Voices.{Voices}
 use Rattle.names.proofs.Laws.Names.{names-length}
 use Rattle.names.proofs.Laws.Notes.{noted-first}
 use Rattle.clausal.specs.Calls.{ceilings}
@@ -44,11 +45,10 @@ use Rattle.convert.proofs.Laws.Written as written
 use Rattle.walk.specs.declared.nodes.Nodes.{Nodes}
 use Rattle.origin.specs.Calls.{clause_checked, names_checked, shown_with}
 use Rattle.origin.specs.Origins.{line_of, lines_of}
-use Rattle.origin.specs.Inner.Lines.{name_count, lines_from, Lists, lists_of, named, unnoted, Known, Spoken, Tellable}
+use Rattle.origin.specs.Inner.Lines.{lines_from, Lists, lists_of, named, Spoken, Tellable}
 use Rattle.origin.specs.Inner.Shown.{spanned, lines_between, named_with, Listed, Showable, shown_under}
 use Rattle.origin.specs.declared.line.Span.{Span}
 use Rattle.origin.specs.declared.pen.Pen.{Pen}
-use Rattle.origin.specs.declared.voices.Voices.{Voices}
 use Rattle.origin.proofs.Laws.Sources.{right}
 use Rattle.origin.proofs.Laws.Spoken.{spoken_along}
 
@@ -57,10 +57,9 @@ count-names : (n : ℕ) (list : List ℕ) → right_names n list ≡ true → na
 count-names n list h = omega (arith, names-length n (parted newline list) h)
 
 -- the notes of a right list
-first-noted : (list : List ℕ) (n : ℕ) (notes : Notes) → right_names n list ≡ true → n ≤ 32_000 → notes ≡ notes_of list n
-    → Noted list n notes
-first-noted list n notes r f e =
-    subst⁻¹ (Noted list n) e (noted-first (record { right = r; few = f; none = refl }))
+first-noted : (x y : Names) (n : ℕ) → right_names n x.list.now ≡ true → n ≤ 32_000 → y ≡ notes_of x n → Noted y n
+first-noted x y n r f e =
+    subst⁻¹ (λ (z : Names). Noted z n) e (noted-first (record { right = r; few = f; none = refl }))
 
 -- lines are measured, and then written
 module _ (x : Nodes) (s : List ℕ) (span : Span) (y : Voices) (out mid : List ℕ) (y1 : Voices) (q : Pen) where
@@ -110,25 +109,29 @@ module _ (x : Nodes) (marks s : List ℕ) (y : Voices) (count : ℕ) (span : Spa
     w.ground.prepared.settled.marked.size.most,
   )
 
-  pub helpers-notable : right_names count y.helper_names.now ≡ true → Notable y.helper_names.now count y.helper_notes
+  pub helpers-notable : right_names count y.helper_names.list.now ≡ true → Notable y.helper_names count
   helpers-notable r = record { right = r; few = few-helpers; none = w.unnoted.helpers }
 
-  module _ (o : right_names y.options y.option_names.now ≡ true) (r : right_names count y.helper_names.now ≡ true) where
-    pub listed_tellable : Tellable x marks s (lists_of y) span
-    listed_tellable = record {
+  -- both are noted, and stay the same
+  module _ (o : right_names y.options y.option_names.list.now ≡ true) (r : right_names count y.helper_names.list.now ≡ true)
+      (on hn : Names) (e : on ≡ notes_of y.option_names y.options) (f : hn ≡ notes_of y.helper_names count) where
+    listed_same : lists_of (record y { option_names = on; helper_names = hn }) ≡ lists_of y
+    listed_same = λ i. lists_of (record y { option_names = e i; helper_names = f i })
+
+    pub listed_tellable : Tellable x marks s (lists_of (record y { option_names = on; helper_names = hn })) span
+    listed_tellable = subst⁻¹ (λ (l : Lists). Tellable x marks s l span) listed_same (record {
       ground = w.ground;
-      count = count-names count y.helper_names.now r ∙ w.helped
+      count = count-names count y.helper_names.list.now r ∙ w.helped
           ∙ ap (renamed_below s) (sym (right x y.options marks s w.ground).size);
       order = w.order;
       within = w.within;
-    }
+    })
 
-    pub listed_known : (on hn : Notes) → on ≡ notes_of y.option_names.now y.options → hn ≡ notes_of y.helper_names.now count
-        → Known (record y { option_notes = on; helper_notes = hn })
-    listed_known on hn e f = record {
-      options = first-noted y.option_names.now y.options on o w.ground.prepared.settled.convertible.most e;
-      helpers = subst⁻¹ (λ (m : ℕ). Noted y.helper_names.now m hn) (count-names count y.helper_names.now r)
-          (first-noted y.helper_names.now count hn r few-helpers f);
+    pub listed_known : Known (record y { option_names = on; helper_names = hn })
+    listed_known = record {
+      options = first-noted y.option_names on y.options o w.ground.prepared.settled.convertible.most e;
+      helpers = subst⁻¹ (Noted hn) (ap (λ (z : Names). name_count z.list.now) f ∙ count-names count y.helper_names.list.now r)
+          (first-noted y.helper_names hn count r few-helpers f);
     }
 
 -- a call that ends with what is stored: the values that are reported may be others

@@ -6,15 +6,14 @@ use mathlib.Core.List.{List, [], ◌∷◌, ◌++◌, append-nil}
 use Prim.Native.Nat.{ℕ, ◌+◌, ◌≤◌, ◌<◌}
 use native.Mathlib.Omega.{arith}
 use Rattle.laws.specs.Lists.{Every, more}
-use Rattle.names.specs.Inner.Notes.{Noted, Findable, Looked}
-use Rattle.names.proofs.Laws.Notes.{noted-options, noted-helpers}
+use Rattle.names.specs.Inner.Notes.{name_count, Known, Findable, Looked}
+use Rattle.names.specs.declared.lookup.Voices.{Voices}
+use Rattle.names.proofs.Laws.Notes.{looked_either, known_looked}
 use Rattle.clausal.specs.Clauses.{Literal, Clause}
 use Rattle.walk.proofs.Laws.Put.{shown_append}
-use Rattle.origin.specs.Inner.Lines.{name_count, tabbed, literals_text, Lists, lists_of, named, Known, Voiced, Spoken}
+use Rattle.origin.specs.Inner.Lines.{tabbed, literals_text, Lists, lists_of, named, Voiced, Spoken}
 use Rattle.origin.specs.Inner.Pens.{Standing, Drawn}
 use Rattle.origin.specs.declared.pen.Pen.{Pen}
-use Rattle.origin.specs.declared.voices.Voices.{Voices}
-use Rattle.names.specs.declared.list.Notes.{Notes}
 use Rattle.origin.proofs.Laws.Pens.{drawn-nothing, drawn_as, drawn-both}
 
 abbrev literal : Bool → ℕ → Literal
@@ -52,35 +51,24 @@ module _ (l : Lists) where
 
 -- a literal that is looked up
 module _ (x : Voices) (out : List ℕ) (plain : Bool) (n : ℕ) (p : Pen) (w : Voiced x (literal plain n ∷ []) out p) where
-  range : (0 < n) × (n ≤ x.options + name_count x.helper_names.now)
+  range : (0 < n) × (n ≤ x.options + name_count x.helper_names.list.now)
   range = first w.ranged
     where
-      first : Every (λ (l : Literal). (0 < l.variable) × (l.variable ≤ x.options + name_count x.helper_names.now)) (literal plain n ∷ [])
-          → (0 < n) × (n ≤ x.options + name_count x.helper_names.now)
+      first : Every (λ (l : Literal). (0 < l.variable) × (l.variable ≤ x.options + name_count x.helper_names.list.now)) (literal plain n ∷ [])
+          → (0 < n) × (n ≤ x.options + name_count x.helper_names.list.now)
       first (more r e) = r
 
-  pub findable : Findable x.option_names.now x.helper_names.now x.option_notes x.helper_notes x.options n
-  findable = record {
-    count = name_count x.helper_names.now;
-    options = w.known.options;
-    helpers = w.known.helpers;
-    some = range.0;
-    most = range.1;
-  }
+  pub findable : Findable x n
+  findable = record { known = w.known; some = range.0; most = range.1 }
 
-  pub literal_spoken : (name : List ℕ) (on hn : Notes) (mid after : List ℕ) (q r : Pen)
-      → Looked x.option_names.now x.helper_names.now x.option_notes x.helper_notes x.options n name on hn
+  pub literal_spoken : (name : List ℕ) (y : Voices) (mid after : List ℕ) (q r : Pen) → Looked x n name y
       → Drawn (9 ∷ cond plain [] (33 ∷ [])) out p mid q → Drawn name mid q after r
-      → Spoken (literals_text (named (lists_of x)) (literal plain n ∷ [])) (lists_of x) out p
-      (record x { option_notes = on; helper_notes = hn }) after r
+      → Spoken (literals_text (named (lists_of x)) (literal plain n ∷ [])) (lists_of x) out p y after r
   unfolding findable
-  literal_spoken name on hn mid after q r l d f = record {
+  literal_spoken name y mid after q r l d f = record {
     drawn = drawn_as text (drawn-both _ _ _ _ _ _ _ _ d f);
-    known = record {
-      options = subst⁻¹ (Noted x.option_names.now x.options) l.options (noted-options findable);
-      helpers = subst⁻¹ (Noted x.helper_names.now (name_count x.helper_names.now)) l.helpers (noted-helpers findable);
-    };
-    lists = refl;
+    known = subst⁻¹ Known l.notes (known_looked findable);
+    lists = ap lists_of l.notes ∙ looked_either (λ (y : Voices). lists_of y ≡ lists_of x) (λ h. refl) (λ h. refl);
   }
     where
       text : literals_text (named (lists_of x)) (literal plain n ∷ []) ≡ (9 ∷ cond plain [] (33 ∷ [])) ++ name

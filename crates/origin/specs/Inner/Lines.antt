@@ -1,13 +1,13 @@
 -- Lines as they are written run by run, and what their writers ask and leave.
 -- Assumes nothing: these are definitions.
-use Rattle.std.specs.Prelude.{List, [], ◌∷◌, ◌++◌, ◌≡◌, ℕ, zero, suc, ◌+◌, ◌-◌, ◌<◌, ◌≤◌, length}
-use denote.Ref.{Bor}
+use Rattle.std.specs.Prelude.{List, [], ◌∷◌, ◌++◌, ◌≡◌, ℕ, zero, suc, ◌+◌, ◌<◌, ◌≤◌, length}
 use Rattle.laws.specs.Lists.{Every}
 use Rattle.formula.specs.Tables.{nodes_of}
 use Rattle.formula.specs.declared.node.Node.{Node}
-use Rattle.text.specs.Texts.{decimal, parted}
-use Rattle.names.specs.Names.{newline, name_of}
-use Rattle.names.specs.Inner.Notes.{no_notes, Noted}
+use Rattle.text.specs.Texts.{decimal}
+use Rattle.names.specs.Names.{name_of}
+use Rattle.names.specs.Inner.Notes.{name_count, Known}
+use Rattle.names.specs.declared.lookup.Voices.{Voices}
 use Rattle.clausal.specs.Clauses.{Literal, Clause, Renaming, renaming, renamed_below}
 use Rattle.clausal.specs.Output.{output_of}
 use Rattle.walk.specs.Inner.Lists.{names_in, shown_all}
@@ -21,11 +21,6 @@ use Rattle.origin.specs.Inner.Grounds.{Ground, spot_clause}
 use Rattle.origin.specs.Inner.Pens.{Standing, Drawn}
 use Rattle.origin.specs.Inner.Ways.{Startable}
 use Rattle.origin.specs.declared.pen.Pen.{Pen}
-use Rattle.origin.specs.declared.voices.Voices.{Voices}
-
--- how many names a right list has
-abbrev pub name_count : List ℕ → ℕ
-name_count list = length (parted newline list) - 1
 
 -- a number and a tab
 abbrev pub field_text : ℕ → List ℕ
@@ -60,31 +55,16 @@ pub record Lists : Type 0 where
   pub helper_list : List ℕ
 
 abbrev pub lists_of : Voices → Lists
-lists_of x = record { options = x.options; option_list = x.option_names.now; helper_list = x.helper_names.now }
-
--- lists of which nothing is noted
-abbrev pub unnoted : ℕ → Bor (List ℕ) → Bor (List ℕ) → Voices
-unnoted v options helpers = record {
-  options = v;
-  option_names = options;
-  helper_names = helpers;
-  option_notes = no_notes;
-  helper_notes = no_notes;
-}
+lists_of x = record { options = x.options; option_list = x.option_names.list.now; helper_list = x.helper_names.list.now }
 
 -- the name of a variable
 abbrev pub named : Lists → ℕ → List ℕ
 named l = name_of l.option_list l.helper_list l.options
 
--- both lists of names with their notes
-pub record Known (x : Voices) : Type 0 where
-  pub options : Noted x.option_names.now x.options x.option_notes
-  pub helpers : Noted x.helper_names.now (name_count x.helper_names.now) x.helper_notes
-
--- the same, with a pen in a buffer and literals that have names
+-- both lists of names with their notes, a pen in a buffer and literals that have names
 pub record Voiced (x : Voices) (c : Clause) (out : List ℕ) (p : Pen) : Type 0 where
   pub known : Known x
-  pub ranged : Ranged (x.options + name_count x.helper_names.now) c
+  pub ranged : Ranged (x.options + name_count x.helper_names.list.now) c
   pub standing : Standing p out
 
 -- bytes were put, and the lists, which are the same, still have their notes

@@ -8,6 +8,7 @@ use Rattle.formula.specs.Checks.{checked}
 use Rattle.formula.specs.Tables.{nodes_of}
 use Rattle.formula.specs.declared.node.Node.{Node}
 use Rattle.names.specs.Inner.Notes.{no_notes}
+use Rattle.names.specs.declared.lookup.Voices.{Voices}
 use Rattle.clausal.specs.Clauses.{Renaming, renaming, renamed_below}
 use Rattle.clausal.specs.Output.{output_of}
 use Rattle.convert.specs.Inner.Fitted.{Convertible}
@@ -16,7 +17,6 @@ use Rattle.origin.specs.Calls.{names_checked, origin_under, origins_under}
 use Rattle.origin.specs.Inner.Grounds.{Ground}
 use Rattle.origin.specs.Inner.Lines.{Lists, named, lines_from}
 use Rattle.origin.specs.declared.line.Span.{Span}
-use Rattle.origin.specs.declared.voices.Voices.{Voices}
 
 -- the clauses that are told: clause k, where there is one, or all of them
 abbrev pub spanned : Option ℕ → ℕ → Result Span Refusal
@@ -34,8 +34,8 @@ named_with l u ns lines before =
 
 -- nothing is noted of both lists
 pub record Unnoted (y : Voices) : Type 0 where
-  pub options : y.option_notes ≡ no_notes
-  pub helpers : y.helper_notes ≡ no_notes
+  pub options : y.option_names ≡ no_notes y.option_names.list
+  pub helpers : y.helper_names ≡ no_notes y.helper_names.list
 
 -- a formula that was prepared, numbers of clauses of its output, and how many helpers it has
 pub record Listed (x : Nodes) (marks s : List ℕ) (y : Voices) (count : ℕ) (span : Span) : Type 0 where

@@ -10,7 +10,7 @@ note-requires-2 c =
 pub write_lines-requires-clause-tellable : goal.write_lines-requires-clause-tellable
 write_lines-requires-clause-tellable c =
     listed_tellable _ _ _ c.args.voices.now _ _ c.requires (sym c.is_right.ensures ∙ c.if-not-is_right.false)
-    (sym c.is_right-else-not-is_right.ensures ∙ c.if-not-is_right-2.false)
+    (sym c.is_right-else-not-is_right.ensures ∙ c.if-not-is_right-2.false) _ _ c.note.ensures c.note-2.ensures
 
 pub write_lines-requires-clause-known : goal.write_lines-requires-clause-known
 write_lines-requires-clause-known c =

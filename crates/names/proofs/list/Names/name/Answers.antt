@@ -1,7 +1,7 @@
--- `names::lookup::name_in` meets its contract: from where a name begins to the next newline is the name. Assumes nothing.
+-- `names::list::Names::name` meets its contract: from where a name begins to the next newline is the name. Assumes nothing.
 use Rattle.names.proofs.Laws.Places.{name-here}
 use Rattle.names.proofs.Laws.Notes.{reached-found}
-use Rattle.names.proofs.lookup.name_in.Goals as goal
+use Rattle.names.proofs.list.Names.name.Goals as goal
 
 pub find-end-requires : goal.find-end-requires
 find-end-requires c = (reached-found c.requires c.start_of-start.ensures.0).within

@@ -1,7 +1,0 @@
--- `names::list::note` meets its contract: where each 32nd name up to the one that was reached begins is noted.
--- The measure is the number of names that are left. Assumes nothing.
-use Rattle.names.proofs.Laws.Notes.{Noting}
-use Rattle.names.proofs.list.note.Given as goal
-
-abbrev pub invariant-loop-i : goal.invariant-loop-i
-invariant-loop-i l = Noting l.list l.count l.notes l.at l.i
