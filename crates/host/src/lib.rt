@@ -13,6 +13,9 @@ ghost use Rattle.tidied.specs.Calls.{tidy_call};
 
 use answer::{give, is_part_wrong};
 
+// The number of an answer part that is not 16 bytes long.
+const WRONG_PART: u32 = 11;
+
 // Checks a formula table for a project of `options` options.
 pub fn simbolufa_check(table: &[u8], options: u32, answer: &mut [u8]) -> u32
     ensures { record { result = result; output = tt; part = answer.new }
@@ -20,7 +23,7 @@ pub fn simbolufa_check(table: &[u8], options: u32, answer: &mut [u8]) -> u32
         (only (checked table.now options)) }
 {
     if is_part_wrong(answer) {
-        return 11;
+        return WRONG_PART;
     }
     give(formula::table::check(table, options), answer)
 }
@@ -32,7 +35,7 @@ pub fn simbolufa_measure(table: &[u8], options: u32, set: &[u8], answer: &mut [u
         (only (measured table.now options set.now)) }
 {
     if is_part_wrong(answer) {
-        return 11;
+        return WRONG_PART;
     }
     give(totals::measure::measure(table, options, set), answer)
 }
@@ -50,7 +53,7 @@ pub fn simbolufa_choose(
         (chosen_by table.now options allowance set.old) }
 {
     if is_part_wrong(answer) {
-        return 11;
+        return WRONG_PART;
     }
     give(choose::pass::choose(table, options, allowance, set), answer)
 }
@@ -68,7 +71,7 @@ pub fn simbolufa_convert(
         (converted table.now options set.now out.old) }
 {
     if is_part_wrong(answer) {
-        return 11;
+        return WRONG_PART;
     }
     give(convert::convert::convert(table, options, set, out), answer)
 }
@@ -88,7 +91,7 @@ pub fn simbolufa_convert_after(
         (converted_after table.now options taken set.now out.old) }
 {
     if is_part_wrong(answer) {
-        return 11;
+        return WRONG_PART;
     }
     give(
         convert::convert::convert_after(table, options, taken, set, out),
@@ -114,7 +117,7 @@ pub fn simbolufa_origin<'a>(
         line.old) }
 {
     if is_part_wrong(answer) {
-        return 11;
+        return WRONG_PART;
     }
     give(
         origin::calls::origin(
@@ -146,7 +149,7 @@ pub fn simbolufa_origins<'a>(
         lines.old) }
 {
     if is_part_wrong(answer) {
-        return 11;
+        return WRONG_PART;
     }
     give(
         origin::calls::origins(table, options, set, option_names, helper_names, lines),
@@ -168,7 +171,7 @@ pub fn simbolufa_write_dimacs(
     ensures bytes { (i : ℕ) → get_or clauses.now i 0 < 256 }
 {
     if is_part_wrong(answer) {
-        return 11;
+        return WRONG_PART;
     }
     give(dimacs::write(clauses, variables, text), answer)
 }
@@ -180,7 +183,7 @@ pub fn simbolufa_read_dimacs(text: &[u8], clauses: &mut [u8], answer: &mut [u8])
         (read_call text.now clauses.old) }
 {
     if is_part_wrong(answer) {
-        return 11;
+        return WRONG_PART;
     }
     give(dimacs::read(text, clauses), answer)
 }
@@ -192,7 +195,7 @@ pub fn simbolufa_read_sat(text: &[u8], table: &mut [u8], answer: &mut [u8]) -> u
         (satfile.read_call text.now table.old) }
 {
     if is_part_wrong(answer) {
-        return 11;
+        return WRONG_PART;
     }
     give(satfile::read(text, table), answer)
 }
@@ -212,7 +215,7 @@ pub fn simbolufa_tidy(
     ensures bytes { (i : ℕ) → get_or clauses.now i 0 < 256 }
 {
     if is_part_wrong(answer) {
-        return 11;
+        return WRONG_PART;
     }
     give(tidy::tidy(clauses, variables, out, changes), answer)
 }
