@@ -25,13 +25,14 @@ impl<'a> Voices<'a> {
     }
 
     // The name of variable `n`: an option's up to `options`, a helper's above.
-    pub fn lookup(&mut self, n: u32) -> &'a [u8]
+    pub fn lookup(&mut self, n: usize) -> &'a [u8]
         requires { Findable self.old n }
         ensures { Looked self.old n result.now self.new }
     {
-        if n <= self.options {
-            return self.option_names.name((n - 1) as usize);
+        let v = self.options as usize;
+        if n <= v {
+            return self.option_names.name(n - 1);
         }
-        self.helper_names.name((n - self.options - 1) as usize)
+        self.helper_names.name(n - v - 1)
     }
 }

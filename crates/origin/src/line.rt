@@ -81,7 +81,7 @@ fn put_literal(voices: &mut Voices, literal: Literal, out: &mut [u8], pen: Pen) 
     ensures { Spoken (literals_text (named (lists_of voices.old)) (as_literal literal ∷ [])) (lists_of voices.old) out.old pen
         voices.new out.new result }
 {
-    let name = voices.lookup(literal.variable);
+    let name = voices.lookup(literal.variable as usize);
     let sign = put_sign(out, pen, literal.plain);
     put(out, sign, name)
 }
