@@ -1,8 +1,10 @@
 // A pen in a lent buffer: with it text is measured first, and then written.
+ghost use Rattle.std.specs.Prelude.{◌+◌, ◌≤◌, length};
+ghost use Rattle.laws.specs.Inner.Stores.{Stored};
 ghost use Rattle.text.specs.Texts.{decimal};
 ghost use Rattle.origin.specs.Inner.Pens.{Standing, Drawn};
 
-use text::write::{put_bytes, put_number};
+use text::write::put_number;
 
 #[derive(Clone, Copy)]
 pub struct Pen {
@@ -12,6 +14,17 @@ pub struct Pen {
     pub fits: bool,
     // Whether it is written, or only measured.
     pub writing: bool,
+}
+
+// Puts bytes from a place on, one by one: as a copy of slices they would ask the host for `memmove`.
+fn put_each(out: &mut [u8], at: usize, bytes: &[u8]) -> usize
+    requires { at + length bytes.now ≤ length out.old }
+    ensures { Stored bytes.now out.old at result out.new }
+{
+    for i in 0..bytes.len() {
+        out[at + i] = bytes[i];
+    }
+    at + bytes.len()
 }
 
 // Puts bytes, where there is room.
@@ -32,7 +45,7 @@ pub fn put(out: &mut [u8], pen: Pen, bytes: &[u8]) -> Pen
     if !pen.writing {
         return next;
     }
-    put_bytes(out, pen.at, bytes);
+    put_each(out, pen.at, bytes);
     next
 }
 
