@@ -181,6 +181,10 @@ fn first_fault(known: bool, a: Option<Fault>, b: Option<Fault>) -> Option<Fault>
     if !known {
         return Some(Fault::UnknownKind);
     }
+    // Most records are right: that is asked before faults are compared.
+    if a.is_none() && b.is_none() {
+        return None;
+    }
     if is_either(a, b, Fault::UnusedNotZero) {
         return Some(Fault::UnusedNotZero);
     }

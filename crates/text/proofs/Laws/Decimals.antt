@@ -4,7 +4,7 @@ use mathlib.Core.Path.{◌≡◌, refl, sym, ap, ◌∙◌, subst}
 use mathlib.Core.Bool.{Bool, true, false}
 use mathlib.Core.List.{List, [], ◌∷◌, ◌++◌, append_assoc}
 use Prim.Native.Nat.{ℕ, zero, suc, ◌+◌, ◌*◌, ◌-◌, ◌/◌, ◌%◌, ◌^◌, ◌≤◌, ◌<◌}
-use native.Mathlib.Nat.{pow-suc, one-le-pow}
+use native.Mathlib.Nat.{pow-suc, one-le-pow, pow-le-pow_right}
 use native.Mathlib.Omega.{arith}
 use lib.Dec.{ltb}
 use lib.ListN.{length, length-append}
@@ -146,3 +146,7 @@ module _ {n i power digits : ℕ} (w : Widening n i power digits) where
   -- every number of 32 bits has ten digits at most
   pub widening_end : n < 2 ^ 32 → 10 ≤ i → digits ≡ length (decimal n)
   widening_end h k = w.above (omega (arith, length_decimal_le 9 n (omega arith)))
+
+  -- no power overflows
+  pub widening_small : i < 10 → power ≤ 10 ^ 9
+  widening_small h = omega (arith, w.is_power, pow-le-pow_right {n = 10} (omega arith) {i = i} {j = 9} (omega arith))

@@ -73,6 +73,17 @@ number-whole most bytes e =
 pub decimal-whole : (most n : ℕ) → n ≤ most → is_number most (decimal n) ≡ true
 decimal-whole most n h = rw (value-decimal n, same_self (decimal n)) (le-leb n most h)
 
+-- the reader of a number finds n exactly where the bytes are the decimal of n, and n is up to the limit
+pub number-decimal : (most n : ℕ) (bytes : List ℕ) → Some n ≡ number_of most bytes → (bytes ≡ decimal n) × (n ≤ most)
+number-decimal most n bytes e = go (is_number most bytes) refl e
+  where
+    go : (b : Bool) → is_number most bytes ≡ b → Some n ≡ cond b (Some (value_of bytes)) None → (bytes ≡ decimal n) × (n ≤ most)
+    go true f g =
+        let w = number-whole most bytes f in
+        let v : value_of bytes ≡ n = cc in
+        (w.0 ∙ ap decimal v, omega (arith, v, w.1))
+    go false f g = let z : ◌≡◌ {A = ℕ} 0 1 = cc in absurd (omega arith)
+
 pub decimal-number : (most n : ℕ) → n ≤ most → Some n ≡ number_of most (decimal n)
 decimal-number most n h = rw (decimal-whole most n h, value-decimal n)
 

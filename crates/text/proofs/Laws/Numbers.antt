@@ -6,7 +6,7 @@ use mathlib.Core.List.{List, [], ◌∷◌, ◌++◌, append_assoc, append-nil}
 use Prim.Native.Nat.{ℕ, ◌+◌, ◌*◌, ◌-◌, ◌≤◌, ◌<◌}
 use native.Mathlib.Omega.{arith}
 use lib.Dec.{eqb, leb, ltb}
-use borrow.Author.Tests.{leb-true, le-leb, eqb-false, ne_eqb, ltb-false, le-ltb}
+use borrow.Author.Tests.{leb-true, le-leb, lt-leb, eqb-false, ne_eqb, ltb-false, le-ltb}
 use Rattle.laws.proofs.Choices.{both}
 use Rattle.text.specs.Texts.{decimal}
 use Rattle.text.specs.Inner.Numbers.{is_digit, grown_of}
@@ -96,6 +96,9 @@ split_of_first (first {d = d} l g h m) =
 -- digits and other bytes
 pub is_digit_lem : (b : ℕ) → 48 ≤ b → b ≤ 57 → is_digit b ≡ true
 is_digit_lem b h g = rw (le-leb 48 b h, le-leb b 57 g)
+
+pub digit-below : (b : ℕ) → b < 48 → is_digit b ≡ false
+digit-below b h = rw (lt-leb 48 b h)
 
 pub digit_value : (d : ℕ) → d < 10 → is_digit (48 + d) ≡ true
 digit_value d h = is_digit_lem (48 + d) (omega arith) (omega arith)

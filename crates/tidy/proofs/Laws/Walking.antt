@@ -39,14 +39,21 @@ pub record Sized (k size : ℕ) : Type 0 where
   pub few : size ≤ most
   pub within : size ≤ k
   pub some : 0 < k → 0 < size
-  pub least : size ≡ min k most
 
 pub window_sized : (k size : ℕ) → size ≡ cond (ltb k most) k most → Sized k size
 window_sized k size e = subst⁻¹ (Sized k) e (go (ltb k most) refl)
   where
     go : (b : Bool) → ltb k most ≡ b → Sized k (cond b k most)
-    go true f = let h = ltb-true k most f in record { few = omega arith; within = omega arith; some = λ g. g; least = omega arith }
-    go false f = let h = ltb-false k most f in record { few = omega arith; within = h; some = λ g. omega arith; least = omega arith }
+    go true f = let h = ltb-true k most f in record { few = omega arith; within = omega arith; some = λ g. g }
+    go false f = let h = ltb-false k most f in record { few = omega arith; within = h; some = λ g. omega arith }
+
+-- and it is the lesser of both
+pub window_least : (k size : ℕ) → size ≡ cond (ltb k most) k most → size ≡ min k most
+window_least k size e = e ∙ go (ltb k most) refl
+  where
+    go : (b : Bool) → ltb k most ≡ b → cond b k most ≡ min k most
+    go true f = let h = ltb-true k most f in omega arith
+    go false f = let h = ltb-false k most f in omega arith
 
 -- the clauses before number `start` were put
 pub record Walking (bytes : List ℕ) (writing : Bool) (out lines mid left : List ℕ) (walked : Walked) (seed start : ℕ)
@@ -122,9 +129,9 @@ module _ {bytes : List ℕ} {v count : ℕ} {writing : Bool} {out lines : List �
       }
 
       -- the first clauses of the window stand at the start of a list
-      pub walking_passable : (firsts : List ℕ) → length firsts ≡ most
+      pub walking_passable : (firsts : List ℕ) → size ≤ length firsts
           → Firsts bytes start size firsts
-          → Passable bytes start walked.place size (take size firsts) mid left walked.pen
+          → Passable bytes start walked.place size firsts mid left walked.pen
       walking_passable firsts long are = record {
         numbered = numbered;
         long = bytes-short bytes v small given.right;
@@ -132,11 +139,19 @@ module _ {bytes : List ℕ} {v count : ℕ} {writing : Bool} {out lines : List �
         within = window_within;
         clauses = right.clauses;
         place_is = w.place_is;
-        firsts_size = omega (arith, length-take-le size firsts (omega (arith, s.few, long)));
-        firsts_are = λ i h. get_or-take size firsts i 0 h ∙ are i h;
+        firsts_size = long;
+        firsts_are = are;
         drawable = subst (λ (n : ℕ). DrawableIn (clauses_of bytes) n size mid left walked.pen) (zero-add start)
             (drawable-next (clauses_of bytes) 0 start size (part_room (start + size) window_within) w.drawn-is);
       }
+
+      -- and so does the part of that list that the window has
+      pub walking_taken : (firsts : List ℕ) → length firsts ≡ most
+          → Firsts bytes start size firsts
+          → Passable bytes start walked.place size (take size firsts) mid left walked.pen
+      walking_taken firsts long are =
+          walking_passable (take size firsts) (omega (arith, length-take-le size firsts (omega (arith, s.few, long))))
+          (λ i h. get_or-take size firsts i 0 h ∙ are i h)
 
       pub walking_next : {o l : List ℕ} {next : Walked} → Passed bytes start size mid left walked.pen o l next
           → (found : ℕ) → found < seeds → Walking bytes writing out lines o l next found (start + size)

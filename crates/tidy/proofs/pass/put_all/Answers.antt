@@ -13,8 +13,8 @@ use Rattle.tidy.specs.Inner.Windows.{most}
 use Rattle.sets.specs.Inner.Sets.{seeds}
 use Rattle.tidy.specs.Inner.Passes.{start_pen, Passable, Passed}
 use Rattle.tidy.specs.declared.pass.Walked.{Walked}
-use Rattle.tidy.proofs.Laws.Walking.{Walking, Sized, window_sized, walking_start, walking_searchable}
-use Rattle.tidy.proofs.Laws.Walking.{walking_passable, walking_next, walking_end}
+use Rattle.tidy.proofs.Laws.Walking.{Walking, Sized, window_sized, window_least, walking_start, walking_searchable}
+use Rattle.tidy.proofs.Laws.Walking.{walking_taken, walking_next, walking_end}
 use Rattle.tidy.proofs.pass.put_all.Goals.{After-first_clauses-found, After-window_size-size, At-loop-start, In-loop-start}
 use Rattle.tidy.proofs.pass.put_all.Goals.{else-loop-start-test, then-loop-start-test+else-count-start-gt1024}
 use Rattle.tidy.proofs.pass.put_all.Goals as goal
@@ -64,21 +64,21 @@ put_window-walked-requires c =
     subst⁻¹ (λ (n : ℕ). Passable x.bytes.now c.loop-start.start c.loop-start.walked.place n
     (take c.window_size-size.result c.first_clauses-found.result.firsts) c.loop-start.out c.loop-start.lines
     c.loop-start.walked.pen) (part-long found)
-    (walking_passable (small (goal.at.put_window-walked-requires c).At-loop-start) c.requires
+    (walking_taken (small (goal.at.put_window-walked-requires c).At-loop-start) c.requires
     (here (goal.at.put_window-walked-requires c).In-loop-start) size
     c.first_clauses-found.result.firsts (firsts-long found) c.first_clauses-found.ensures.firsts_are)
 
 -- the clauses of a window were put
 after : {size : ℕ} {o m : List ℕ} {next : Walked} (c : At-loop-start) → c.loop-start.start < c.args.count
-    → Sized (c.args.count - c.loop-start.start) size
+    → Sized (c.args.count - c.loop-start.start) size → size ≡ min (c.args.count - c.loop-start.start) most
     → Passed c.args.bytes.now c.loop-start.start size c.loop-start.out c.loop-start.lines c.loop-start.walked.pen o m next
     → (seed : ℕ) → seed < seeds
     → Walking c.args.bytes.now c.args.writing c.args.out.now c.args.lines.now o m next seed (min (c.loop-start.start + 1024) c.args.count)
-after {size} {o} {m} {next} c h s p seed few =
+after {size} {o} {m} {next} c h s least p seed few =
     let x = c.args in
     let l = c.loop-start in
     let begun : min l.start x.count ≡ l.start = omega (arith, h) in
-    let e : l.start + size ≡ min (l.start + 1024) x.count = omega (arith, s.least, h) in
+    let e : l.start + size ≡ min (l.start + 1024) x.count = omega (arith, least, h) in
     let w = subst (λ (n : ℕ). Walking x.bytes.now x.writing x.out.now x.lines.now l.out l.lines l.walked l.seed n) begun l.invariant in
     subst (λ (n : ℕ). Walking x.bytes.now x.writing x.out.now x.lines.now o m next seed n) e
     (walking_next (small c) c.requires w s p seed few)
@@ -87,6 +87,7 @@ pub loop-start-preserved : goal.loop-start-preserved
 loop-start-preserved c =
     after (goal.at.loop-start-preserved c).At-loop-start c.loop-start-test.true
     (sized (goal.at.loop-start-preserved c).After-window_size-size)
+    (window_least (c.args.count - c.loop-start.start) _ (goal.at.loop-start-preserved c).After-window_size-size.window_size-size.ensures)
     (subst (λ (n : ℕ). Passed c.args.bytes.now c.loop-start.start n c.loop-start.out c.loop-start.lines c.loop-start.walked.pen
     c.put_window-walked.new.out c.put_window-walked.new.lines c.put_window-walked.result)
     (part-long (goal.at.loop-start-preserved c).After-first_clauses-found) c.put_window-walked.ensures) c.first_clauses-found.result.seed
@@ -106,6 +107,7 @@ returns c =
           let few : w.window_size-size.result ≤ length w.first_clauses-found.result.firsts = omega (arith, size.few) in
           let long = length-take-le w.window_size-size.result w.first_clauses-found.result.firsts few in
           let done = after at w.loop-start-test.true size
+          (window_least (x.count - l.start) _ w.window_size-size.ensures)
           (subst (λ (n : ℕ). Passed x.bytes.now l.start n l.out l.lines l.walked.pen w.put_window-walked.new.out w.put_window-walked.new.lines
           w.put_window-walked.result) long w.put_window-walked.ensures)
           w.first_clauses-found.result.seed w.first_clauses-found.ensures.seed_few in
