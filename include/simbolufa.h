@@ -154,7 +154,7 @@
  *
  *   Deepest stack, measured on x86-64: check, write_dimacs and read_dimacs less than 1 KiB, measure and
  *   choose 14 KiB, read_sat 9 KiB, origin and origins 38 KiB, tidy 55 KiB, convert and convert_after 18 KiB. For deep tables
- *   these two take more, up to 83,336 bytes for 1,024 nested nodes. A stack of 160 KiB is enough for every entry.
+ *   these two take more, up to 83,368 bytes for 1,024 nested nodes. A stack of 160 KiB is enough for every entry.
  *
  *   A call checks its own input. It returns 0 or the number of a refusal. A refusal changes no lent
  *   byte outside the answer part.
